@@ -1,0 +1,5 @@
+pub mod Forests
+pub mod Searches
+pub mod Spans
+pub mod Stacks
+pub mod Walks

@@ -1,0 +1,6 @@
+pub mod Headers
+pub mod Laying
+pub mod Passes
+pub mod Searched
+pub mod Sheets
+pub mod Tables

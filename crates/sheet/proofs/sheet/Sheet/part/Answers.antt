@@ -1,0 +1,8 @@
+use mathlib.Core.Path.{ap}
+use native.Mathlib.Omega.{arith}
+use lib.Dec.{lit<}
+use lib.ListN.{length}
+use Rattle.sheet.proofs.sheet.Sheet.part.Needs as need
+
+pub record-in-requires : need.record-in-requires
+record-in-requires c κs = record { inside = λ some. omega (arith, c .args .self .now .laid 4 (lit< tt) some, ap length (c .deref .ensures .value)) }
