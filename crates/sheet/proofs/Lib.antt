@@ -1,6 +1,1 @@
-pub mod Headers
-pub mod Laying
-pub mod Passes
-pub mod Searched
 pub mod Sheets
-pub mod Tables

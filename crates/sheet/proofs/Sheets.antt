@@ -11,12 +11,12 @@ use Rattle.std.specs.Of.Vec.{vec-items}
 use Rattle.rules.specs.Preorder.{placed, Stands}
 use Rattle.rules.proofs.Spans.{tree-stands}
 use Rattle.sheet.specs.declared.sheet.Sheet.{Sheet}
-use Rattle.sheet.specs.declared.records.TypeRecord.{TypeRecord}
-use Rattle.sheet.specs.declared.records.NodeRecord.{NodeRecord}
-use Rattle.sheet.specs.Records.{table, type-from, root-from, leaf-from, name-from, element-from, node-from, expression-from, no-type, no-node, by-place}
+use Rattle.format.specs.declared.records.TypeRecord.{TypeRecord}
+use Rattle.format.specs.declared.records.NodeRecord.{NodeRecord}
+use Rattle.format.specs.Records.{table, type-from, root-from, leaf-from, name-from, element-from, node-from, expression-from, no-type, no-node, by-place}
 use Rattle.sheet.specs.Seen.{names-in, types-in, roots-in, leaves-in, parts-in, elements-in, nodes-in, expressions-in}
 use Rattle.sheet.specs.SheetTrees.{type-tree, node-tree, Trees-stand}
-use Rattle.sheet.proofs.Tables.{length-table}
+use Rattle.format.proofs.Tables.{length-table}
 
 module _ (s : Sheet) where
   abbrev bs : List ℕ

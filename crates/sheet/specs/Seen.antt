@@ -4,17 +4,17 @@ use Prim.Native.Nat.{ℕ}
 use Rattle.std.specs.Of.Vec.{vec-items}
 use Rattle.std.specs.declared.result.Result.{Result}
 use Rattle.std.specs.declared.result.Result.the-variants.{Ok, Err}
-use Rattle.sheet.specs.declared.fault.Fault.{Fault}
-use Rattle.sheet.specs.declared.records.NameRef.{NameRef}
-use Rattle.sheet.specs.declared.records.TypeRecord.{TypeRecord}
-use Rattle.sheet.specs.declared.records.RootRecord.{RootRecord}
-use Rattle.sheet.specs.declared.records.LeafRecord.{LeafRecord}
-use Rattle.sheet.specs.declared.records.ElementRecord.{ElementRecord}
-use Rattle.sheet.specs.declared.records.NodeRecord.{NodeRecord}
-use Rattle.sheet.specs.declared.records.ExpressionRecord.{ExpressionRecord}
+use Rattle.format.specs.declared.fault.Fault.{Fault}
+use Rattle.format.specs.declared.records.NameRef.{NameRef}
+use Rattle.format.specs.declared.records.TypeRecord.{TypeRecord}
+use Rattle.format.specs.declared.records.RootRecord.{RootRecord}
+use Rattle.format.specs.declared.records.LeafRecord.{LeafRecord}
+use Rattle.format.specs.declared.records.ElementRecord.{ElementRecord}
+use Rattle.format.specs.declared.records.NodeRecord.{NodeRecord}
+use Rattle.format.specs.declared.records.ExpressionRecord.{ExpressionRecord}
 use Rattle.sheet.specs.declared.sheet.Sheet.{Sheet}
 use Rattle.sheet.specs.declared.sheet.Unopened.{Unopened}
-use Rattle.sheet.specs.Format.{Tables, tables-at, names-at, types-at, roots-at, leaves-at, parts-at, elements-at, nodes-at, expressions-at}
+use Rattle.format.specs.Format.{Tables, tables-at, names-at, types-at, roots-at, leaves-at, parts-at, elements-at, nodes-at, expressions-at}
 
 abbrev pub names-in : Sheet → List ℕ
 names-in s = names-at (s .layout) (vec-items (s .bytes))

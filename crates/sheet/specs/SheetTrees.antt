@@ -11,15 +11,15 @@ use Rattle.rules.specs.Names.{Name}
 use Rattle.rules.specs.Preorder.{treeAt, Stands}
 use Rattle.rules.specs.Trees.{Tree, node, Forest, none, more, label, firstTree, forest}
 use Rattle.rules.specs.Types.{Wrapper, list, largeList, listView, largeListView, fixedSizeList, map as mapOf, Ty, leaf, struct, wrap, Fields, empty, field, File}
-use Rattle.sheet.specs.declared.kinds.TypeKind.{TypeKind}
-use Rattle.sheet.specs.declared.kinds.TypeKind.the-variants.{Leaf, Struct, List as ListKind, LargeList, ListView, LargeListView, FixedSizeList, Map}
-use Rattle.sheet.specs.declared.records.TypeRecord.{TypeRecord}
-use Rattle.sheet.specs.declared.records.RootRecord.{RootRecord}
-use Rattle.sheet.specs.declared.records.NodeRecord.{NodeRecord}
-use Rattle.sheet.specs.declared.records.ElementRecord.{ElementRecord}
+use Rattle.format.specs.declared.kinds.TypeKind.{TypeKind}
+use Rattle.format.specs.declared.kinds.TypeKind.the-variants.{Leaf, Struct, List as ListKind, LargeList, ListView, LargeListView, FixedSizeList, Map}
+use Rattle.format.specs.declared.records.TypeRecord.{TypeRecord}
+use Rattle.format.specs.declared.records.RootRecord.{RootRecord}
+use Rattle.format.specs.declared.records.NodeRecord.{NodeRecord}
+use Rattle.format.specs.declared.records.ElementRecord.{ElementRecord}
 use Rattle.sheet.specs.declared.sheet.Sheet.{Sheet}
-use Rattle.sheet.specs.Kinds.{type-kind}
-use Rattle.sheet.specs.Records.{name-bytes, no-type, no-node}
+use Rattle.format.specs.Kinds.{type-kind}
+use Rattle.format.specs.Records.{name-bytes, no-type, no-node}
 use Rattle.sheet.specs.Seen.{names-in, types-in, roots-in, nodes-in, elements-in}
 
 -- the tree of types and the tree of nodes at a place

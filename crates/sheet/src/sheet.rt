@@ -4,11 +4,11 @@ ghost use mathlib.Core.Path.{_≡_};
 ghost use lib.ListN.{length};
 ghost use Rattle.std.specs.Of.Vec.{vec-items};
 ghost use Rattle.std.specs.Options.{isSome};
-ghost use Rattle.sheet.specs.Format.{Laid, Few, Each, types-at, roots-at, leaves-at, parts-at, elements-at, nodes-at, expressions-at};
-ghost use Rattle.sheet.specs.Good.{good-type, good-node, first-bad-element, fair-at, fair-root, fair-leaf, fair-part, fair-expression};
-ghost use Rattle.sheet.specs.Records.{no-name, no-root, no-leaf, no-expression};
-use crate::fault::Fault;
-use crate::layout::Layout;
+ghost use Rattle.format.specs.Format.{Laid, Few, Each, types-at, roots-at, leaves-at, parts-at, elements-at, nodes-at, expressions-at};
+ghost use Rattle.format.specs.Good.{good-type, good-node, first-bad-element, fair-at, fair-root, fair-leaf, fair-part, fair-expression};
+ghost use Rattle.format.specs.Records.{no-name, no-root, no-leaf, no-expression};
+use format::Fault;
+use format::inner::Layout;
 
 mod opening;
 mod trees;

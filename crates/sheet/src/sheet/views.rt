@@ -1,25 +1,25 @@
 //! What a sheet holds.
 ghost use mathlib.Core.Path.{_≡_};
 ghost use lib.ListN.{getD, length};
-ghost use Rattle.sheet.specs.Records.{name-bytes, no-name, no-type, no-root, no-leaf, no-element, no-node, no-expression};
+ghost use Rattle.format.specs.Records.{name-bytes, no-name, no-type, no-root, no-leaf, no-element, no-node, no-expression};
 ghost use Rattle.sheet.specs.Seen.{names-in, types-in, roots-in, leaves-in, parts-in, elements-in, nodes-in, expressions-in};
-use crate::decode::cut;
-use crate::decode::record_in;
-use crate::forms::ElementBytes;
-use crate::forms::ExpressionBytes;
-use crate::forms::LeafBytes;
-use crate::forms::NameBytes;
-use crate::forms::NodeBytes;
-use crate::forms::RootBytes;
-use crate::forms::TypeBytes;
-use crate::records::ElementRecord;
-use crate::records::ExpressionRecord;
-use crate::records::LeafRecord;
-use crate::records::NameRef;
-use crate::records::NodeRecord;
-use crate::records::RootRecord;
-use crate::records::TypeRecord;
 use crate::sheet::Sheet;
+use format::ElementRecord;
+use format::ExpressionRecord;
+use format::LeafRecord;
+use format::NameRef;
+use format::NodeRecord;
+use format::RootRecord;
+use format::TypeRecord;
+use format::inner::ElementBytes;
+use format::inner::ExpressionBytes;
+use format::inner::LeafBytes;
+use format::inner::NameBytes;
+use format::inner::NodeBytes;
+use format::inner::RootBytes;
+use format::inner::TypeBytes;
+use format::inner::cut;
+use format::inner::record_in;
 
 // Each record is looked up by its place, and is the blank record beyond its section.
 impl Sheet {

@@ -1,7 +1,7 @@
 use mathlib.Core.Path.{sym}
 use Rattle.std.specs.Of.Vec.{vec-items}
-use Rattle.sheet.specs.Records.{name-from}
-use Rattle.sheet.proofs.Tables.{length-table}
+use Rattle.format.specs.Records.{name-from}
+use Rattle.format.proofs.Tables.{length-table}
 use Rattle.sheet.proofs.sheet.Sheet.part_count.Needs as need
 
 pub returns : need.returns

@@ -1,5 +1,5 @@
 use Rattle.std.specs.Of.Vec.{vec-items}
-use Rattle.sheet.proofs.Laying.{Sound, sound}
+use Rattle.format.proofs.Laying.{Sound, sound}
 use Rattle.sheet.proofs.sheet.opening.open.Needs as need
 use Rattle.sheet.proofs.sheet.opening.open.Needs.{In-Ok}
 
