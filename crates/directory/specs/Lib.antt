@@ -1,1 +1,4 @@
+pub mod Building
+pub mod Flattened
 pub mod Listed
+pub mod Rows

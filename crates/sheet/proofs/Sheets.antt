@@ -1,22 +1,33 @@
 -- What a reader knows of every sheet. Assumes nothing.
 use mathlib.Core.Path.{_≡_, refl, sym, ap, _∙_, subst}
 use mathlib.Core.Bool.{Bool, true, false, _&&_}
-use mathlib.Core.List.{List}
+use mathlib.Core.List.{List, _∷_, _++_}
 use Prim.Native.Nat.{ℕ, _+_, _<_, _≤_}
 use native.Mathlib.Omega.{arith}
 use lib.Dec.{lit<}
-use lib.ListN.{length, getD}
-use Rattle.std.proofs.shelf.Tests.{and-parts}
+use lib.ListN.{length, getD, take, drop, length-append, length-drop}
+use Rattle.std.proofs.shelf.Lists.{getD-drop, take-append-le, take-all}
+use Rattle.std.proofs.shelf.Tests.{and-parts, ltb-true}
 use Rattle.std.specs.Of.Vec.{vec-items}
-use Rattle.rules.specs.Preorder.{placed, Stands}
+use Rattle.rules.specs.Preorder.{placed, Spanned, Stands}
+use Rattle.rules.specs.Trees.{Tree, node, label, preorder, size}
+use Rattle.rules.proofs.Forests.{length-preorder}
 use Rattle.rules.proofs.Spans.{tree-stands}
 use Rattle.sheet.specs.declared.sheet.Sheet.{Sheet}
 use Rattle.format.specs.declared.records.TypeRecord.{TypeRecord}
 use Rattle.format.specs.declared.records.NodeRecord.{NodeRecord}
-use Rattle.format.specs.Records.{table, type-from, root-from, leaf-from, name-from, element-from, node-from, expression-from, no-type, no-node, by-place}
+use Rattle.format.specs.Records.{no-root, table, type-from, root-from, leaf-from, name-from, element-from, node-from, expression-from, no-type, no-node, by-place}
 use Rattle.sheet.specs.Seen.{names-in, types-in, roots-in, leaves-in, parts-in, elements-in, nodes-in, expressions-in}
 use Rattle.sheet.specs.SheetTrees.{type-tree, node-tree, Trees-stand}
 use Rattle.format.proofs.Tables.{length-table}
+
+label-at : {A : Type 0} (t : Tree A) (xs rest : List A) (p : ℕ) (d : A) → preorder t ++ rest ≡ drop p xs → label t ≡ getD xs p d
+label-at (node a f) xs rest p d e =
+    let z : p + 0 ≡ p = omega arith in
+    ap (λ w. getD w 0 d) e ∙ getD-drop p xs 0 d ∙ ap (λ q. getD xs q d) z
+
+span-is : {A : Type 0} (children span : A → ℕ) (t : Tree A) → Spanned children span t → span (label t) ≡ size t
+span-is children span (node a f) h = h .0
 
 module _ (s : Sheet) where
   abbrev bs : List ℕ
@@ -66,3 +77,30 @@ module _ (s : Sheet) where
 
   pub trees-stand : Trees-stand s
   trees-stand = (type-stands, node-stands)
+
+  -- the type that a root names is there
+  pub root-place : (r : ℕ) → r < length (roots-in s) → getD (roots-in s) r no-root .«type_place» < length (types-in s)
+  root-place r h = let good = ltb-true _ _ (s .roots r (omega (arith, root-count))) in omega (arith, good, type-count)
+
+  module _ (p : ℕ) (h : p < length (types-in s)) where
+    abbrev here : Tree TypeRecord
+    here = type-tree s p
+
+    -- the span of a type counts the records of its tree, which stand from there on
+    pub type-size : getD (types-in s) p no-type .span ≡ size here
+    type-size =
+        let st = type-stands p h in
+        let l = label-at here (types-in s) _ p no-type (st .written) in
+        ap (λ (t : TypeRecord). t .span) (sym l) ∙ span-is (λ (t : TypeRecord). t .children) (λ t. t .span) here (st .spans)
+
+    pub type-within : p + size here ≤ length (types-in s)
+    type-within =
+        let e = ap length (type-stands p h .written) in
+        omega (arith, e, length-append (preorder here) (drop (p + size here) (types-in s)), length-preorder here, length-drop p (types-in s))
+
+    pub type-records : take (size here) (drop p (types-in s)) ≡ preorder here
+    type-records =
+        let n = length-preorder here in
+        ap (take (size here)) (sym (type-stands p h .written))
+        ∙ take-append-le (size here) (preorder here) (drop (p + size here) (types-in s)) (omega (arith, n))
+        ∙ take-all (size here) (preorder here) (omega (arith, n))

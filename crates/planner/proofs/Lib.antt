@@ -1,0 +1,5 @@
+pub mod Chosen
+pub mod Copied
+pub mod Listing
+pub mod Padding
+pub mod Planned

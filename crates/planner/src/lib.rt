@@ -1,0 +1,6 @@
+//! Plans which leaf columns of a file are read.
+mod buffers;
+mod projection_read_plan;
+
+pub use projection_read_plan::Plan;
+pub use projection_read_plan::root_level_plan;
