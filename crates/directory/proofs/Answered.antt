@@ -67,10 +67,18 @@ module _ (s : Sheet) (ps : List ℕ) where
   length-path : (n e : ℕ) → length (path-to s ps n e) ≡ n
   length-path n e = length-map (chain ps n e) (name-at s) ∙ length-chain ps n e
 
-  path-at : (n e j : ℕ) → j < n → nth (path-to s ps n e) j ≡ Some (name-at s (upward ps (n - (j + 1)) e))
+  pub path-past : (n e j : ℕ) → n ≤ j → nth (path-to s ps n e) j ≡ None
+  path-past n e j h = nth-past (path-to s ps n e) j (omega (arith, length-path n e))
+
+  pub path-at : (n e j : ℕ) → j < n → nth (path-to s ps n e) j ≡ Some (name-at s (upward ps (n - (j + 1)) e))
   path-at n e j h =
       nth-getD (path-to s ps n e) j [] (omega (arith, length-path n e))
       ∙ ap Some (getD-map (name-at s) (chain ps n e) j 0 [] (omega (arith, length-chain ps n e)) ∙ ap (name-at s) (chain-at ps n e j h))
+
+-- there is a row for each leaf
+pub row-count : (n : ℕ) (rows : List LeafRow) (ls : List Leaf) → n ≤ length rows → map (λ r. r .root) (take n rows) ≡ map (λ l. l .root) ls → n ≡ length ls
+row-count n rows ls h e =
+    omega (arith, length-take-le n rows h, length-map (take n rows) (λ r. r .root), length-map ls (λ l. l .root), ap length e)
 
 module _ (d : FlattenedDirectory) where
   abbrev s : Sheet
@@ -94,36 +102,14 @@ module _ (d : FlattenedDirectory) where
   listed : map leaf (take n (d .rows)) ≡ ls
   listed = joined s (d .parents) (take n (d .rows)) ls (d .rooted) (d .led)
 
-  pub many : n ≡ length ls
-  many = sym (length-take-le n (d .rows) within) ∙ sym (length-map (take n (d .rows)) leaf) ∙ ap length listed
+  pub beyond : (i : ℕ) → n ≤ i → nth ls i ≡ None
+  beyond i h = nth-past ls i (omega (arith, d .counted))
 
-  beyond : (i : ℕ) → n ≤ i → nth ls i ≡ None
-  beyond i h = nth-past ls i (omega (arith, many))
-
-  here : (i : ℕ) → i < n → nth ls i ≡ Some (leaf (row i))
+  pub here : (i : ℕ) → i < n → nth ls i ≡ Some (leaf (row i))
   here i h =
       let short : i < length (take n (d .rows)) = omega (arith, length-take-le n (d .rows) within) in
-      nth-getD ls i (leaf no-row) (omega (arith, many))
+      nth-getD ls i (leaf no-row) (omega (arith, d .counted))
       ∙ ap Some (ap (λ w. getD w i (leaf no-row)) (sym listed) ∙ getD-map leaf (take n (d .rows)) i no-row (leaf no-row) short ∙ ap leaf (getD-take n (d .rows) i no-row h))
 
-  pub no-root : (i : ℕ) → n ≤ i → None ≡ rootAt ls i
-  no-root i h = sym (ap (mapped (λ l. l .root)) (beyond i h))
-
-  pub root-is : (i : ℕ) → i < n → Some (row i .root) ≡ rootAt ls i
-  root-is i h = sym (ap (mapped (λ l. l .root)) (here i h))
-
-  pub no-parts : (i : ℕ) → n ≤ i → None ≡ partCountAt ls i
-  no-parts i h = sym (ap (mapped (λ l. length (l .parts))) (beyond i h))
-
-  pub parts-are : (i : ℕ) → i < n → Some (row i .parts) ≡ partCountAt ls i
-  parts-are i h = ap Some (sym (length-path s (d .parents) (row i .parts) (row i .element))) ∙ sym (ap (mapped (λ l. length (l .parts))) (here i h))
-
-  pub no-leaf : (i j : ℕ) → n ≤ i → None ≡ partOf (nth ls i) j
-  no-leaf i j h = sym (ap (λ o. partOf o j) (beyond i h))
-
-  pub no-part : (i j : ℕ) → i < n → row i .parts ≤ j → None ≡ partOf (nth ls i) j
-  no-part i j h far =
-      sym (ap (λ o. partOf o j) (here i h) ∙ nth-past (path-to s (d .parents) (row i .parts) (row i .element)) j (omega (arith, length-path s (d .parents) (row i .parts) (row i .element))))
-
-  pub part-is : (i j : ℕ) → i < n → j < row i .parts → Some (name-at s (upward (d .parents) (row i .parts - (j + 1)) (row i .element))) ≡ partOf (nth ls i) j
-  part-is i j h near = sym (ap (λ o. partOf o j) (here i h) ∙ path-at s (d .parents) (row i .parts) (row i .element) j near)
+  pub row-path : (i : ℕ) → length (path-to s (d .parents) (row i .parts) (row i .element)) ≡ row i .parts
+  row-path i = length-path s (d .parents) (row i .parts) (row i .element)

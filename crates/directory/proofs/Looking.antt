@@ -61,7 +61,8 @@ module _ (s : Sheet) where
       let low = in-section (s .layout) (previous no-leaf (leaves-in s) i) r (getD (leaves-in s) (i + 1) no-leaf) good some in
       omega (arith, low, part-count s)
 
-  long : (i : ℕ) → i < length (leaves-in s) → length (listed-leaf s (getD (leaves-in s) i no-leaf) .parts) ≡ getD (leaves-in s) i no-leaf .parts
+  -- as many as the record says
+  pub long : (i : ℕ) → i < length (leaves-in s) → length (listed-leaf s (getD (leaves-in s) i no-leaf) .parts) ≡ getD (leaves-in s) i no-leaf .parts
   long i h =
       let r = getD (leaves-in s) i no-leaf in
       let a = length-map (take (r .parts) (drop (r .«first_part») (parts-in s))) (name-bytes (names-in s)) in
@@ -72,22 +73,14 @@ module _ (s : Sheet) where
         | inr none ↦ omega (arith, a, b, c)
       ]
 
-  pub root-is : (i x : ℕ) → i < length (leaves-in s) → x ≡ getD (leaves-in s) i no-leaf .root → Some x ≡ rootAt ls i
-  root-is i x h e = ap Some e ∙ sym (ap (mapped (λ (l : Leaf). l .root)) (here i h))
+-- the parts of a leaf that has as many as its record says
+module _ (s : Sheet) (r : LeafRecord) (j : ℕ) (all : length (listed-leaf s r .parts) ≡ r .parts) where
+  pub no-part : r .parts ≤ j → nth (listed-leaf s r .parts) j ≡ None
+  no-part far = nth-past (listed-leaf s r .parts) j (omega (arith, all))
 
-  pub count-is : (i x : ℕ) → i < length (leaves-in s) → x ≡ getD (leaves-in s) i no-leaf .parts → Some x ≡ partCountAt ls i
-  count-is i x h e = ap Some (e ∙ sym (long i h)) ∙ sym (ap (mapped (λ (l : Leaf). length (l .parts))) (here i h))
-
-  -- beyond the leaf's parts
-  pub no-part : (i j : ℕ) → i < length (leaves-in s) → getD (leaves-in s) i no-leaf .parts ≤ j → partOf (nth ls i) j ≡ None
-  no-part i j h far = ap (λ o. partOf o j) (here i h) ∙ nth-past (listed-leaf s (getD (leaves-in s) i no-leaf) .parts) j (omega (arith, long i h))
-
-  pub part-is : (i j : ℕ) → i < length (leaves-in s) → j < getD (leaves-in s) i no-leaf .parts → partOf (nth ls i) j ≡ Some (name-bytes (names-in s) (getD (parts-in s) (getD (leaves-in s) i no-leaf .«first_part» + j) no-name))
-  part-is i j h near =
-      let r = getD (leaves-in s) i no-leaf in
+  pub part-is : j < r .parts → nth (listed-leaf s r .parts) j ≡ Some (name-bytes (names-in s) (getD (parts-in s) (r .«first_part» + j) no-name))
+  part-is near =
       let row = take (r .parts) (drop (r .«first_part») (parts-in s)) in
-      let a = length-take (r .parts) (drop (r .«first_part») (parts-in s)) in
-      let b = length-drop (r .«first_part») (parts-in s) in
-      let short : j < length row = omega (arith, a, b, inside i h (omega arith)) in
-      ap (λ o. partOf o j) (here i h) ∙ nth-map (name-bytes (names-in s)) row j
+      let short : j < length row = omega (arith, all, length-map row (name-bytes (names-in s))) in
+      nth-map (name-bytes (names-in s)) row j
       ∙ ap (mapped (name-bytes (names-in s))) (nth-getD row j no-name short ∙ ap Some (getD-take (r .parts) (drop (r .«first_part») (parts-in s)) j no-name near ∙ getD-drop (r .«first_part») (parts-in s) j no-name))

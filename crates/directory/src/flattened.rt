@@ -25,6 +25,7 @@ pub struct FlattenedDirectory<'a> {
     rows: [LeafRow; 1024],
     parents: [u16; 1024],
     ghost long: { (length rows ≡ 1024) × (length parents ≡ 1024) × («leaf_count» ≤ 1024) },
+    ghost counted: { «leaf_count» ≡ length (flattened-leaves (now sheet)) },
     ghost inside: { RowsInside (now sheet) rows «leaf_count» },
     ghost climbs: { ParentsInside (now sheet) parents },
     ghost rooted: { map (λ r. r .root) (take «leaf_count» rows) ≡ roots (flattened-leaves (now sheet)) },

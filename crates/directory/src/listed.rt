@@ -1,11 +1,14 @@
 //! The directory that the sections of leaves and parts list.
 ghost use denote.Ref.{now};
 ghost use mathlib.Core.Path.{_≡_};
+ghost use lib.ListN.{length};
 ghost use Rattle.std.specs.Options.{mapped};
+ghost use Rattle.std.specs.Slices.{found};
 ghost use Rattle.std.specs.shelf.Maps.{nth};
 ghost use Rattle.rules.specs.Leaves.{partOf};
-ghost use Rattle.directory.specs.Listed.{listed-leaves, listed-never-fall};
+ghost use Rattle.directory.specs.Listed.{listed-leaf, listed-leaves, listed-never-fall};
 use crate::directory::LeafDirectory;
+use sheet::LeafRecord;
 use sheet::Sheet;
 
 /// The leaves of a sheet, as its sections of leaves and parts list them.
@@ -22,19 +25,37 @@ impl<'a> ListedDirectory<'a> {
         ListedDirectory { sheet }
     }
 
-    /// A part of a leaf's path, or none where there is no such part.
-    pub fn part(&self, leaf: usize, part: usize) -> Option<&[u8]>
-        ensures { λ r. ⌜ mapped now r ≡ partOf (nth (listed-leaves (now (now (self .entry) .sheet))) leaf) part ⌝ }
+    // The record of a leaf, or none beyond the list.
+    fn leaf_record(&self, leaf: usize) -> Option<LeafRecord>
+        ensures leaf { λ r. ⌜ mapped (listed-leaf (now (now (self .entry) .sheet))) r ≡ nth (listed-leaves (now (now (self .entry) .sheet))) leaf ⌝ }
+        ensures parts { λ r. ⌜ found r (λ x. length (listed-leaf (now (now (self .entry) .sheet)) x .parts) ≡ x .parts) ⌝ }
     {
         if leaf >= self.sheet.leaf_count() {
             return None;
         }
-        let record = self.sheet.leaf_record(leaf);
-        if part >= record.parts as usize {
+        Some(self.sheet.leaf_record(leaf))
+    }
+
+    // A part of the path of a leaf that has as many parts as its record says.
+    fn part_of_record(&self, leaf: LeafRecord, part: usize) -> Option<&[u8]>
+        requires { ⌜ length (listed-leaf (now (now self .sheet)) leaf .parts) ≡ leaf .parts ⌝ }
+        ensures { λ r. ⌜ mapped now r ≡ nth (listed-leaf (now (now (self .entry) .sheet)) leaf .parts) part ⌝ }
+    {
+        if part >= leaf.parts as usize {
             return None;
         }
-        let name = self.sheet.part(record.first_part as usize + part);
+        let name = self.sheet.part(leaf.first_part as usize + part);
         Some(self.sheet.name(name))
+    }
+
+    /// A part of a leaf's path, or none where there is no such part.
+    pub fn part(&self, leaf: usize, part: usize) -> Option<&[u8]>
+        ensures { λ r. ⌜ mapped now r ≡ partOf (nth (listed-leaves (now (now (self .entry) .sheet))) leaf) part ⌝ }
+    {
+        match self.leaf_record(leaf) {
+            Some(found) => self.part_of_record(found, part),
+            None => None,
+        }
     }
 }
 
@@ -48,17 +69,17 @@ pub impl LeafDirectory for ListedDirectory<'_> as ListedLeaves {
     }
 
     fn root(&self, leaf: usize) -> Option<usize> {
-        if leaf >= self.sheet.leaf_count() {
-            return None;
+        match self.leaf_record(leaf) {
+            Some(found) => Some(found.root as usize),
+            None => None,
         }
-        Some(self.sheet.leaf_record(leaf).root as usize)
     }
 
     fn parts(&self, leaf: usize) -> Option<usize> {
-        if leaf >= self.sheet.leaf_count() {
-            return None;
+        match self.leaf_record(leaf) {
+            Some(found) => Some(found.parts as usize),
+            None => None,
         }
-        Some(self.sheet.leaf_record(leaf).parts as usize)
     }
 
     fn part_is(&self, leaf: usize, part: usize, name: &[u8]) -> Option<bool> {

@@ -39,6 +39,13 @@ pub fn record_in<R: Record>(bytes: &[u8], section: Section, place: usize) -> R
     R::read(bytes, section.start as usize + R::size() * place)
 }
 
+// How many records a section has.
+pub fn count_in<R: Record>(bytes: &[u8], section: Section) -> usize
+    ensures { λ r. ⌜ r ≡ length (table (R·Record .width) (R·Record .from) (now (bytes .entry)) (section .start) (section .count)) ⌝ }
+{
+    section.count as usize
+}
+
 // So many bytes from a start on, or as many of them as there are.
 pub fn cut(bytes: &[u8], start: usize, count: usize) -> &[u8]
     ensures { λ r. ⌜ now r ≡ take count (drop start (now (bytes .entry))) ⌝ }

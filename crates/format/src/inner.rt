@@ -1,6 +1,7 @@
 //! Inner: for the crate `sheet` alone, which opens bytes and looks records up in them. What is here may ask something of
 //! its caller.
 pub use crate::decode::Record;
+pub use crate::decode::count_in;
 pub use crate::decode::cut;
 pub use crate::decode::record_in;
 pub use crate::forms::ElementBytes;

@@ -18,30 +18,31 @@ use format::inner::NameBytes;
 use format::inner::NodeBytes;
 use format::inner::RootBytes;
 use format::inner::TypeBytes;
+use format::inner::count_in;
 use format::inner::cut;
 use format::inner::record_in;
 
 // Each record is looked up by its place, and is the blank record beyond its section.
 impl Sheet {
+    /// The bytes that names lie in.
+    pub fn names(&self) -> &[u8]
+        ensures { λ r. ⌜ now r ≡ names-in (now (self .entry)) ⌝ }
+    {
+        let section = self.layout.names;
+        cut(&self.bytes, section.start as usize, section.count as usize)
+    }
+
     /// The bytes of a name, as far as the section of names has them.
     pub fn name(&self, name: NameRef) -> &[u8]
         ensures { λ r. ⌜ now r ≡ name-bytes (names-in (now (self .entry))) name ⌝ }
     {
-        let section = self.layout.names;
-        let names = cut(&self.bytes, section.start as usize, section.count as usize);
-        cut(names, name.start as usize, name.len as usize)
-    }
-
-    pub fn name_byte_count(&self) -> usize
-        ensures { λ r. ⌜ r ≡ length (names-in (now (self .entry))) ⌝ }
-    {
-        self.layout.names.count as usize
+        cut(self.names(), name.start as usize, name.len as usize)
     }
 
     pub fn type_count(&self) -> usize
         ensures { λ r. ⌜ r ≡ length (types-in (now (self .entry))) ⌝ }
     {
-        self.layout.types.count as usize
+        count_in::<TypeRecord>(&self.bytes, self.layout.types)
     }
 
     pub fn type_record(&self, place: usize) -> TypeRecord
@@ -53,7 +54,7 @@ impl Sheet {
     pub fn root_count(&self) -> usize
         ensures { λ r. ⌜ r ≡ length (roots-in (now (self .entry))) ⌝ }
     {
-        self.layout.roots.count as usize
+        count_in::<RootRecord>(&self.bytes, self.layout.roots)
     }
 
     pub fn root_record(&self, place: usize) -> RootRecord
@@ -65,7 +66,7 @@ impl Sheet {
     pub fn leaf_count(&self) -> usize
         ensures { λ r. ⌜ r ≡ length (leaves-in (now (self .entry))) ⌝ }
     {
-        self.layout.leaves.count as usize
+        count_in::<LeafRecord>(&self.bytes, self.layout.leaves)
     }
 
     pub fn leaf_record(&self, place: usize) -> LeafRecord
@@ -77,7 +78,7 @@ impl Sheet {
     pub fn part_count(&self) -> usize
         ensures { λ r. ⌜ r ≡ length (parts-in (now (self .entry))) ⌝ }
     {
-        self.layout.parts.count as usize
+        count_in::<NameRef>(&self.bytes, self.layout.parts)
     }
 
     pub fn part(&self, place: usize) -> NameRef
@@ -89,7 +90,7 @@ impl Sheet {
     pub fn element_count(&self) -> usize
         ensures { λ r. ⌜ r ≡ length (elements-in (now (self .entry))) ⌝ }
     {
-        self.layout.elements.count as usize
+        count_in::<ElementRecord>(&self.bytes, self.layout.elements)
     }
 
     pub fn element_record(&self, place: usize) -> ElementRecord
@@ -101,7 +102,7 @@ impl Sheet {
     pub fn node_count(&self) -> usize
         ensures { λ r. ⌜ r ≡ length (nodes-in (now (self .entry))) ⌝ }
     {
-        self.layout.nodes.count as usize
+        count_in::<NodeRecord>(&self.bytes, self.layout.nodes)
     }
 
     pub fn node_record(&self, place: usize) -> NodeRecord
@@ -113,7 +114,7 @@ impl Sheet {
     pub fn expression_count(&self) -> usize
         ensures { λ r. ⌜ r ≡ length (expressions-in (now (self .entry))) ⌝ }
     {
-        self.layout.expressions.count as usize
+        count_in::<ExpressionRecord>(&self.bytes, self.layout.expressions)
     }
 
     pub fn expression_record(&self, place: usize) -> ExpressionRecord

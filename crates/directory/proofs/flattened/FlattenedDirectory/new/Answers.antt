@@ -6,8 +6,10 @@ use Rattle.format.specs.declared.records.ElementRecord.{ElementRecord}
 use Rattle.sheet.proofs.Sheets.{few-elements}
 use Rattle.sheet.specs.Seen.{elements-in}
 use Rattle.directory.specs.Building.{no-open}
+use Rattle.directory.specs.Flattened.{flattened-leaves}
 use Rattle.directory.specs.Rows.{no-row}
 use Rattle.directory.proofs.OpenElements.{top-left}
+use Rattle.directory.proofs.Answered.{row-count}
 use Rattle.directory.proofs.Turns.{all-zero, begins, turn-opened, turn-passed, moved, rooted, led}
 use Rattle.directory.proofs.flattened.FlattenedDirectory.new.Needs as need
 use Rattle.directory.proofs.flattened.FlattenedDirectory.new.Needs.{then-children-gt0, else-children-gt0}
@@ -53,4 +55,6 @@ ghost-result c =
     let over : length (elements-in s) ≤ l .e = omega (arith, c .element-count-e-end .ensures) in
     let roots-are = rooted s (l .e) (l .count) (l .depth) (l .roots) (l .rows) (l .parents) (l .frames) (l .inv) over in
     let paths-are = led s (l .e) (l .count) (l .depth) (l .roots) (l .rows) (l .parents) (l .frames) (l .inv) over in
-    ((l .inv .rows-long, l .inv .parents-long, omega (arith, l .inv .few, l .inv .early)), (l .inv .inside, (l .inv .climbs, (roots-are, (paths-are, tt)))))
+    let few : l .count ≤ 1024 = omega (arith, l .inv .few, l .inv .early) in
+    let all = row-count (l .count) (l .rows) (flattened-leaves s) (omega (arith, l .inv .rows-long)) roots-are in
+    ((l .inv .rows-long, l .inv .parents-long, few), (all, (l .inv .inside, (l .inv .climbs, (roots-are, (paths-are, tt))))))
