@@ -29,8 +29,8 @@ def main():
     data = sheet()
     opened = sheets.open_sheet(data)
     assert not isinstance(opened, sheets.Fault), opened
-    rows = [", ".join(str(b) for b in data[i:i + 16]) for i in range(0, len(data), 16)]
-    print("const LEG: [u8; %d] = [\n    %s,\n];" % (len(data), ",\n    ".join(rows)))
+    rows = ["".join("\\x%02x" % b for b in data[i:i + 24]) for i in range(0, len(data), 24)]
+    print('const LEG: &[u8; %d] = b"\\\n    %s";' % (len(data), "\\\n    ".join(rows)))
 
 
 if __name__ == "__main__":
