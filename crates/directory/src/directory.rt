@@ -2,7 +2,9 @@
 ghost use mathlib.Core.List.{List};
 ghost use mathlib.Core.Path.{_≡_};
 ghost use lib.ListN.{length};
-ghost use Rattle.rules.specs.Leaves.{Leaf, roots, rootAt, partCountAt, partIs, NeverFalls};
+ghost use Rattle.std.specs.Options.{mapped};
+ghost use Rattle.std.specs.shelf.Maps.{nth};
+ghost use Rattle.rules.specs.Leaves.{Leaf, roots, rootAt, partCountAt, partOf, partIs, NeverFalls};
 
 /// One fixed list of leaves, in the order of their roots.
 pub trait LeafDirectory {
@@ -27,4 +29,11 @@ pub trait LeafDirectory {
     /// Whether a part of a leaf's path is `name`, or none where there is no such part.
     fn part_is(&self, leaf: usize, part: usize, name: &[u8]) -> Option<bool>
         ensures { λ r. ⌜ r ≡ partIs (leaves (now (self .entry))) leaf part (now (name .entry)) ⌝ };
+}
+
+/// A directory that also gives the bytes of the parts. Planning does not ask for them; who prints paths does.
+pub trait LeafPaths: LeafDirectory {
+    /// A part of a leaf's path, or none where there is no such part.
+    fn part(&self, leaf: usize, part: usize) -> Option<&[u8]>
+        ensures { λ r. ⌜ mapped now r ≡ partOf (nth (Self·LeafDirectory .leaves (now (self .entry))) leaf) part ⌝ };
 }

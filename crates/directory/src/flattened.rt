@@ -15,6 +15,7 @@ mod build;
 mod rows;
 
 pub use answers::FlattenedLeaves;
+pub use answers::FlattenedPaths;
 
 /// The leaves of a sheet, as its elements flatten the schema. What the questions need is made once: a row for each leaf,
 /// and the parent of each element.

@@ -8,6 +8,7 @@ ghost use Rattle.std.specs.shelf.Maps.{nth};
 ghost use Rattle.rules.specs.Leaves.{partOf};
 ghost use Rattle.directory.specs.Listed.{listed-leaf, listed-leaves, listed-never-fall};
 use crate::directory::LeafDirectory;
+use crate::directory::LeafPaths;
 use sheet::LeafRecord;
 use sheet::Sheet;
 
@@ -47,16 +48,6 @@ impl<'a> ListedDirectory<'a> {
         let name = self.sheet.part(leaf.first_part as usize + part);
         Some(self.sheet.name(name))
     }
-
-    /// A part of a leaf's path, or none where there is no such part.
-    pub fn part(&self, leaf: usize, part: usize) -> Option<&[u8]>
-        ensures { λ r. ⌜ mapped now r ≡ partOf (nth (listed-leaves (now (now (self .entry) .sheet))) leaf) part ⌝ }
-    {
-        match self.leaf_record(leaf) {
-            Some(found) => self.part_of_record(found, part),
-            None => None,
-        }
-    }
 }
 
 pub impl LeafDirectory for ListedDirectory<'_> as ListedLeaves {
@@ -85,6 +76,15 @@ pub impl LeafDirectory for ListedDirectory<'_> as ListedLeaves {
     fn part_is(&self, leaf: usize, part: usize, name: &[u8]) -> Option<bool> {
         match self.part(leaf, part) {
             Some(bytes) => Some(bytes == name),
+            None => None,
+        }
+    }
+}
+
+pub impl LeafPaths for ListedDirectory<'_> as ListedPaths {
+    fn part(&self, leaf: usize, part: usize) -> Option<&[u8]> {
+        match self.leaf_record(leaf) {
+            Some(found) => self.part_of_record(found, part),
             None => None,
         }
     }

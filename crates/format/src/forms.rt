@@ -71,14 +71,7 @@ pub impl Record for TypeRecord as TypeBytes {
     }
 
     fn none() -> TypeRecord {
-        TypeRecord {
-            kind: 0,
-            nullable: 0,
-            detail: 0,
-            children: 0,
-            span: 0,
-            name: NO_NAME,
-        }
+        TypeRecord::BLANK
     }
 }
 

@@ -18,6 +18,18 @@ pub struct TypeRecord {
     pub name: NameRef,
 }
 
+impl TypeRecord {
+    /// Zeros: what stands behind the result in a buffer, and what is read behind the end of the section.
+    pub const BLANK: TypeRecord = TypeRecord {
+        kind: 0,
+        nullable: 0,
+        detail: 0,
+        children: 0,
+        span: 0,
+        name: NameRef { start: 0, len: 0 },
+    };
+}
+
 /// A root of the file, by the place of its type.
 #[derive(Clone, Copy)]
 pub struct RootRecord {

@@ -3,3 +3,4 @@ pub mod Copied
 pub mod Listing
 pub mod Padding
 pub mod Planned
+pub mod Schemas

@@ -1,4 +1,5 @@
 -- The plan that reads listed roots whole, with every buffer. Assumes nothing.
+use mathlib.Core.Path.{_≡_}
 use mathlib.Core.Bool.{Bool, cond, _&&_}
 use mathlib.Core.List.{List, [], _∷_, _++_}
 use Prim.Native.Nat.{ℕ, _+_}
@@ -10,7 +11,7 @@ use Rattle.std.specs.declared.option.Option.the-variants.{Some, None}
 use Rattle.std.specs.declared.result.Result.{Result}
 use Rattle.std.specs.declared.result.Result.the-variants.{Ok, Err}
 use Rattle.rules.specs.Leaves.{Leaf}
-use Rattle.rules.specs.RootPlan.{isListed, leavesOfListed, fieldsOfListed, padded}
+use Rattle.rules.specs.RootPlan.{isListed, leavesOfListed, fieldsOfListed, rootsOfListed, padded}
 use Rattle.rules.specs.Searches.{firstFailing}
 use Rattle.rules.specs.Trees.{Tree, preorder}
 use Rattle.format.specs.declared.fault.Fault.{Fault}
@@ -18,8 +19,8 @@ use Rattle.format.specs.declared.fault.Fault.the-variants.{NoRoot, ShortBuffer}
 use Rattle.format.specs.declared.records.TypeRecord.{TypeRecord}
 use Rattle.format.specs.Records.{no-type}
 use Rattle.sheet.specs.declared.sheet.Sheet.{Sheet}
-use Rattle.sheet.specs.Seen.{roots-in}
-use Rattle.sheet.specs.SheetTrees.{root-trees}
+use Rattle.sheet.specs.Seen.{names-in, roots-in}
+use Rattle.sheet.specs.SheetTrees.{root-trees, file-from, file-in}
 use Rattle.planner.specs.declared.projection_read_plan.Plan.{Plan}
 
 -- the fields of the listed roots, and the type records of some fields, one behind the other
@@ -31,6 +32,10 @@ field-records fs = joined preorder fs
 
 abbrev pub all-records : Sheet → List TypeRecord
 all-records s = field-records (root-trees s)
+
+-- the fields of the listed roots, taken as types, are those roots of the sheet's file
+abbrev pub Schema-of-the-file : Type 0
+Schema-of-the-file = (s : Sheet) (listed : List ℕ) → file-from (names-in s) (listed-fields s listed) ≡ rootsOfListed listed 0 (file-in s)
 
 -- what a call answers, with what its two buffers then hold
 abbrev pub PlanAnswer : Type 0

@@ -13,22 +13,12 @@ ghost use Rattle.format.specs.declared.records.TypeRecord.{TypeRecord};
 ghost use Rattle.format.specs.Records.{no-type};
 ghost use Rattle.sheet.specs.Seen.{roots-in, types-in};
 ghost use Rattle.sheet.specs.SheetTrees.{type-tree};
-ghost use Rattle.planner.specs.RootPlans.{PlanAnswer, root-level, listed-fields, field-records, all-records};
+ghost use Rattle.planner.specs.RootPlans.{PlanAnswer, Schema-of-the-file, root-level, listed-fields, field-records, all-records};
 use crate::buffers::blank_from;
 use directory::LeafDirectory;
 use sheet::Fault;
-use sheet::NameRef;
 use sheet::Sheet;
 use sheet::TypeRecord;
-
-const NO_TYPE: TypeRecord = TypeRecord {
-    kind: 0,
-    nullable: 0,
-    detail: 0,
-    children: 0,
-    span: 0,
-    name: NameRef { start: 0, len: 0 },
-};
 
 /// A plan: how many leaves are read, and how many fields and type records the projected schema has. They stand at the
 /// front of the two buffers that the plan was written to.
@@ -83,8 +73,8 @@ fn first_unknown(sheet: &Sheet, roots: &[usize]) -> Option<usize>
     None
 }
 
-// How many type records all roots have.
-fn room(sheet: &Sheet) -> usize
+/// How long the buffer for a plan's fields has to be: as many type records as all roots have.
+pub fn field_room(sheet: &Sheet) -> usize
     ensures { λ r. ⌜ r ≡ length (all-records (now (sheet .entry))) ⌝ }
 {
     let mut sum = 0;
@@ -144,7 +134,7 @@ fn copy_fields(sheet: &Sheet, roots: &[usize], fields: &mut [TypeRecord]) -> (us
             count += 1;
         }
     }
-    blank_from(fields, types, NO_TYPE);
+    blank_from(fields, types, TypeRecord::BLANK);
     (count, types)
 }
 
@@ -163,7 +153,7 @@ pub fn root_level_plan<D: LeafDirectory>(
     if let Some(expression) = first_unknown(sheet, roots) {
         return Err(Fault::NoRoot { expression });
     }
-    if leaves.len() < directory.count() || fields.len() < room(sheet) {
+    if leaves.len() < directory.count() || fields.len() < field_room(sheet) {
         return Err(Fault::ShortBuffer);
     }
     let chosen = choose_leaves(directory, roots, leaves);
@@ -174,3 +164,9 @@ pub fn root_level_plan<D: LeafDirectory>(
         types,
     })
 }
+
+/// A plan's fields are fields of the file: taken as types, the fields of the listed roots are what is left of the file if
+/// only those roots are read, with their names and nullability.
+pub fn schema_is_of_the_file()
+    ensures { λ _. ⌜ Schema-of-the-file ⌝ }
+{}

@@ -5,6 +5,7 @@ use Prim.Native.Nat.{ℕ, _+_, _-_}
 use lib.Dec.{eqb}
 use lib.ListN.{length, replicate}
 use Rattle.rules.specs.Leaves.{Leaf}
+use Rattle.rules.specs.Types.{Fields, empty, field, File}
 
 abbrev pub isListed : List ℕ → ℕ → Bool
 isListed [] x = false
@@ -21,6 +22,12 @@ abbrev pub fieldsOfListed : {F : Type 0} → List ℕ → ℕ → List F → Lis
 fieldsOfListed listed k [] = []
 fieldsOfListed listed k (f ∷ fs) =
     cond (isListed listed k) (f ∷ fieldsOfListed listed (k + 1) fs) (fieldsOfListed listed (k + 1) fs)
+
+-- the same of a file: what is left of it if only the listed roots are read
+abbrev pub rootsOfListed : List ℕ → ℕ → File → File
+rootsOfListed listed k empty = empty
+rootsOfListed listed k (field n b t fs) =
+    cond (isListed listed k) (field n b t (rootsOfListed listed (k + 1) fs)) (rootsOfListed listed (k + 1) fs)
 
 -- what a buffer of n places holds: a result, and then blanks
 abbrev pub padded : {A : Type 0} → A → List A → ℕ → List A

@@ -1,8 +1,12 @@
 use directory::FlattenedDirectory;
 use directory::FlattenedLeaves;
+use directory::FlattenedPaths;
 use directory::LeafDirectory;
+use directory::LeafPaths;
 use directory::ListedDirectory;
 use directory::ListedLeaves;
+use directory::ListedPaths;
+use planner::field_room;
 use planner::root_level_plan;
 use sheet::Fault;
 use sheet::FaultDebug;
@@ -113,6 +117,7 @@ fn directories(rt: LibcRuntime) -> Result<(), Fail> {
 #[test]
 fn plans(rt: LibcRuntime) -> Result<(), Fail> {
     let sheet = opened(rt.alloc(), LEG)?;
+    check_eq(field_room(&sheet), 4)?;
     let listed = ListedDirectory::new(&sheet);
     let mut leaves = [9usize; 4];
     let mut fields = [MARK; 5];

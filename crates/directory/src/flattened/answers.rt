@@ -11,6 +11,7 @@ ghost use Rattle.sheet.specs.Seen.{elements-in};
 ghost use Rattle.directory.specs.Flattened.{flattened-leaves, flattened-never-fall};
 ghost use Rattle.directory.specs.Rows.{leaf-of-row, path-to, upward, ParentsInside};
 use crate::directory::LeafDirectory;
+use crate::directory::LeafPaths;
 use crate::flattened::FlattenedDirectory;
 use crate::flattened::rows::LeafRow;
 use sheet::Sheet;
@@ -56,16 +57,6 @@ impl FlattenedDirectory<'_> {
         let at = climb(self.sheet, &self.parents, row.element as usize, steps);
         Some(self.sheet.name(self.sheet.element_record(at).name))
     }
-
-    /// A part of a leaf's path, or none where there is no such part.
-    pub fn part(&self, leaf: usize, part: usize) -> Option<&[u8]>
-        ensures { λ r. ⌜ mapped now r ≡ partOf (nth (flattened-leaves (now (now (self .entry) .sheet))) leaf) part ⌝ }
-    {
-        match self.row(leaf) {
-            Some(row) => self.part_of_row(row, part),
-            None => None,
-        }
-    }
 }
 
 pub impl LeafDirectory for FlattenedDirectory<'_> as FlattenedLeaves {
@@ -94,6 +85,15 @@ pub impl LeafDirectory for FlattenedDirectory<'_> as FlattenedLeaves {
     fn part_is(&self, leaf: usize, part: usize, name: &[u8]) -> Option<bool> {
         match self.part(leaf, part) {
             Some(bytes) => Some(bytes == name),
+            None => None,
+        }
+    }
+}
+
+pub impl LeafPaths for FlattenedDirectory<'_> as FlattenedPaths {
+    fn part(&self, leaf: usize, part: usize) -> Option<&[u8]> {
+        match self.row(leaf) {
+            Some(row) => self.part_of_row(row, part),
             None => None,
         }
     }

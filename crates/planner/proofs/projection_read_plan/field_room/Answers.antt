@@ -7,7 +7,7 @@ use Rattle.format.specs.Records.{no-type}
 use Rattle.sheet.specs.Seen.{types-in}
 use Rattle.sheet.proofs.Sheets.{few-roots}
 use Rattle.planner.proofs.Copied.{none-summed, one-summed, all-summed}
-use Rattle.planner.proofs.projection_read_plan.room.Needs as need
+use Rattle.planner.proofs.projection_read_plan.field_room.Needs as need
 
 pub loop-root-holds : need.loop-root-holds
 loop-root-holds c = none-summed (c .args .sheet .now)
