@@ -20,6 +20,7 @@ use crate::questions::time_makings;
 use crate::questions::time_questions;
 use directory::FlattenedDirectory;
 use directory::FlattenedLeaves;
+use directory::LeafDirectory;
 use directory::ListedDirectory;
 use directory::ListedLeaves;
 use std::error::AnyError;
@@ -56,30 +57,30 @@ fn tell(rt: &LibcRuntime, directory: &str, unit: &str, timing: Timing) -> io::Re
     )
 }
 
-fn measure_directories(rt: &LibcRuntime, bytes: &[u8]) -> Result<(), AnyError> {
-    let sheet = opened(rt.alloc(), bytes)?;
-    let listed = ListedDirectory::new(&sheet);
-    tell(
-        rt,
-        "listed",
-        "question",
-        time_questions(rt, &listed, ROUNDS)?,
-    )?;
-    let flattened = FlattenedDirectory::new(&sheet);
-    tell(
-        rt,
-        "flattened",
-        "question",
-        time_questions(rt, &flattened, ROUNDS)?,
-    )?;
-    tell(rt, "flattened", "making", time_makings(rt, &sheet, ROUNDS)?)?;
+// Measures one directory, and tells on standard output how many leaves it has and how many questions a round asks.
+fn measure_directory<D: LeafDirectory>(
+    rt: &LibcRuntime,
+    title: &str,
+    directory: &D,
+) -> Result<(), AnyError> {
+    let timing = time_questions(rt, directory, ROUNDS)?;
+    tell(rt, title, "question", timing)?;
+    let leaves = directory.count();
+    let questions = timing.per_unit.units / ROUNDS;
+    println!(rt, "{title}: {leaves} leaves, {questions} questions")?;
     Ok(())
 }
 
 fn measure(rt: &LibcRuntime, counts: Counts) -> Result<(), AnyError> {
     let bytes = made_sheet(rt.alloc(), counts)?;
+    let length = bytes.len();
+    println!(rt, "{length} bytes")?;
     measure_opens(rt, &bytes)?;
-    measure_directories(rt, &bytes)
+    let sheet = opened(rt.alloc(), &bytes)?;
+    measure_directory(rt, "listed", &ListedDirectory::new(&sheet))?;
+    measure_directory(rt, "flattened", &FlattenedDirectory::new(&sheet))?;
+    tell(rt, "flattened", "making", time_makings(rt, &sheet, ROUNDS)?)?;
+    Ok(())
 }
 
 fn run(rt: &LibcRuntime) -> Result<(), AnyError> {
