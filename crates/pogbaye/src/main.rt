@@ -6,6 +6,8 @@ mod names;
 mod paths;
 mod schema;
 mod steps;
+#[cfg(test)]
+mod tests;
 mod ticks;
 
 use crate::arguments::DirectoryKind;
