@@ -10,34 +10,13 @@ use lib.Dec.{eqb}
 use lib.ListN.{length, getD, set}
 use Rattle.std.proofs.shelf.Lists.{getD-set-same, getD-set-other}
 use Rattle.std.proofs.shelf.Tests.{eq-eqb, ne-eqb, eqb-false, cond-true, cond-false}
+use Rattle.rules.proofs.ArrayStacks.{stacked-top, stacked-change}
 use Rattle.directory.specs.declared.flattened.rows.OpenElement.{OpenElement}
 use Rattle.directory.specs.Building.{no-open, opens, seat-of, fewer, AllOpen}
 
-pub length-opens : (xs : List OpenElement) (n : ℕ) → length (opens xs n) ≡ n
-length-opens xs zero = refl
-length-opens xs (suc n) = ap suc (length-opens xs n)
-
--- a write behind the first n changes none of them
-opens-below : (xs : List OpenElement) (i n : ℕ) (x : OpenElement) → n ≤ i → opens (set xs i x) n ≡ opens xs n
-opens-below xs i zero x h = refl
-opens-below xs i (suc n) x h =
-    let ne : n ≢ i = omega arith in
-    let one = getD-set-other xs i n x no-open ne in
-    let rest = opens-below xs i n x (omega arith) in
-    λ k. one k ∷ rest k
-
-pub opens-push : (xs : List OpenElement) (n : ℕ) (x : OpenElement) → n < length xs → opens (set xs n x) (n + 1) ≡ x ∷ opens xs n
-opens-push xs n x h =
-    let one = getD-set-same xs n x no-open h in
-    let rest = opens-below xs n n x (omega arith) in
-    ap (opens (set xs n x)) (add-one n) ∙ (λ k. one k ∷ rest k)
-
-pub opens-top : (xs : List OpenElement) (n : ℕ) → 0 < n → opens xs n ≡ getD xs (n - 1) no-open ∷ opens xs (n - 1)
-opens-top xs n h = let e : n ≡ suc (n - 1) = omega arith in ap (opens xs) e
-
 -- the one on top is closed, or has one child less to come
 pub closed : (xs : List OpenElement) (n : ℕ) → 0 < n → getD xs (n - 1) no-open .left ≡ 1 → opens xs (n - 1) ≡ fewer (opens xs n)
-closed xs n h e = sym (ap fewer (opens-top xs n h) ∙ cond-true _ _ _ (eq-eqb _ _ e))
+closed xs n h e = sym (ap fewer (stacked-top no-open xs n h) ∙ cond-true _ _ _ (eq-eqb _ _ e))
 
 abbrev pub with-left : OpenElement → ℕ → OpenElement
 with-left o n = record { element = o .element; root = o .root; parts = o .parts; left = n }
@@ -45,18 +24,15 @@ with-left o n = record { element = o .element; root = o .root; parts = o .parts;
 pub lowered : (xs : List OpenElement) (n : ℕ) → 0 < n → n ≤ length xs → (getD xs (n - 1) no-open .left ≡ 1 → ⊥)
     → opens (set xs (n - 1) (with-left (getD xs (n - 1) no-open) (getD xs (n - 1) no-open .left - 1))) n ≡ fewer (opens xs n)
 lowered xs n h within ne =
-    let e : n ≡ n - 1 + 1 = omega arith in
-    let x = getD xs (n - 1) no-open in
-    let y = with-left x (x .left - 1) in
-    ap (opens (set xs (n - 1) y)) e ∙ opens-push xs (n - 1) y (omega arith) ∙ sym (ap fewer (opens-top xs n h) ∙ cond-false _ _ _ (ne-eqb _ _ ne))
+    stacked-change no-open xs n _ h within ∙ sym (ap fewer (stacked-top no-open xs n h) ∙ cond-false _ _ _ (ne-eqb _ _ ne))
 
 pub seat-top : (xs : List OpenElement) (n k : ℕ) → 0 < n
     → record { parent = getD xs (n - 1) no-open .element; root = getD xs (n - 1) no-open .root; above = getD xs (n - 1) no-open .parts; roots = k } ≡ seat-of (opens xs n) k
-seat-top xs n k h = sym (ap (λ os. seat-of os k) (opens-top xs n h))
+seat-top xs n k h = sym (ap (λ os. seat-of os k) (stacked-top no-open xs n h))
 
 pub top-left : (e : ℕ) (xs : List OpenElement) (n : ℕ) → AllOpen e (opens xs n) → 0 < n → 0 < getD xs (n - 1) no-open .left
 top-left e xs n all h =
-    let here : AllOpen e (getD xs (n - 1) no-open ∷ opens xs (n - 1)) = subst (AllOpen e) (opens-top xs n h) all in
+    let here : AllOpen e (getD xs (n - 1) no-open ∷ opens xs (n - 1)) = subst (AllOpen e) (stacked-top no-open xs n h) all in
     here .0
 
 -- one more element is passed

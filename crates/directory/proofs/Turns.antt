@@ -15,12 +15,13 @@ use Rattle.sheet.specs.Seen.{elements-in}
 use Rattle.directory.specs.declared.flattened.rows.LeafRow.{LeafRow}
 use Rattle.directory.specs.declared.flattened.rows.OpenElement.{OpenElement}
 use Rattle.directory.specs.declared.flattened.rows.Seat.{Seat}
-use Rattle.directory.specs.Building.{opens, seat-of, fewer, AllOpen}
+use Rattle.directory.specs.Building.{no-open, opens, seat-of, fewer, AllOpen}
 use Rattle.directory.specs.Flattened.{flattened-leaves}
 use Rattle.directory.specs.Rows.{no-row, path-to, leaf-of-row, RowsInside, ParentsInside}
 use Rattle.directory.proofs.ComingLeaves.{Shallow, Lower, lower-next, coming-leaves, coming-none, record-at, trees-from, tree-from, trees-after, trees-split, opened, passed}
 use Rattle.directory.proofs.ElementTree.{kids, starts}
-use Rattle.directory.proofs.OpenElements.{length-opens, opens-push, open-later, open-fewer, seat-low}
+use Rattle.rules.proofs.ArrayStacks.{length-stacked, stacked-push}
+use Rattle.directory.proofs.OpenElements.{open-later, open-fewer, seat-low}
 
 pub all-zero : (n k : ℕ) → _≡_ {A = ℕ} (getD (replicate n 0) k 0) 0
 all-zero zero k = refl
@@ -101,7 +102,7 @@ module _ (s : Sheet) where
 
     module _ (after : List OpenElement) (d : ℕ) (kept : opens after d ≡ fewer os) (less : d ≤ depth) (long : length after ≡ 32) where
       low-stack : d ≤ seat .above
-      low-stack = omega (arith, lower .many, above-is, length-opens after d, ap length kept)
+      low-stack = omega (arith, lower .many, above-is, length-stacked no-open after d, ap length kept)
 
       room : d ≤ 31
       room = omega (arith, b .shallow)
@@ -114,7 +115,7 @@ module _ (s : Sheet) where
           → Built (e + 1) n (d + 1) (seat .roots) rows (set parents e (seat .parent)) (set after d (record { element = e; root = seat .root; parts = seat .above + 1; left = c }))
       turn-opened c is some =
           let o : OpenElement = record { element = e; root = seat .root; parts = seat .above + 1; left = c } in
-          let push : opens (set after d o) (d + 1) ≡ o ∷ fewer os = opens-push after d o (omega (arith, room)) ∙ ap (λ w. o ∷ w) kept in
+          let push : opens (set after d o) (d + 1) ≡ o ∷ fewer os = stacked-push no-open after d o (omega (arith, room)) ∙ ap (λ w. o ∷ w) kept in
           record {
             early = omega (arith, few-elements s);
             few = omega (arith, b .few);

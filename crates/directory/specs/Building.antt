@@ -1,9 +1,9 @@
 -- The elements that are open while a directory is built. Assumes nothing.
 use mathlib.Core.Bool.{cond}
 use mathlib.Core.List.{List, [], _∷_}
-use Prim.Native.Nat.{ℕ, zero, suc, _+_, _-_, _<_}
+use Prim.Native.Nat.{ℕ, _+_, _-_, _<_}
 use lib.Dec.{eqb}
-use lib.ListN.{getD}
+use Rattle.rules.specs.ArrayStacks.{stacked}
 use Rattle.directory.specs.declared.flattened.rows.OpenElement.{OpenElement}
 use Rattle.directory.specs.declared.flattened.rows.Seat.{Seat}
 
@@ -12,8 +12,7 @@ no-open = record { element = 0; root = 0; parts = 0; left = 0 }
 
 -- the first n, the last of them first
 abbrev pub opens : List OpenElement → ℕ → List OpenElement
-opens xs zero = []
-opens xs (suc n) = getD xs n no-open ∷ opens xs n
+opens xs n = stacked no-open xs n
 
 -- where the next element stands: under the open element on top, or as the root k
 abbrev pub seat-of : List OpenElement → ℕ → Seat

@@ -14,6 +14,7 @@ use Rattle.std.specs.declared.option.Option.{Option}
 use Rattle.std.specs.declared.option.Option.the-variants.{Some, None}
 use Rattle.rules.specs.Searches.{firstFailing, earlier}
 use Rattle.rules.specs.Trees.{Tree, node, Forest, none, more, size, sizes, levels, levelsIn, firstTrees, laterTrees, firstTree, forest, whole}
+use Rattle.rules.proofs.ArrayStacks.{length-stacked, stacked-push, stacked-top, stacked-change}
 use Rattle.rules.proofs.Forests.{wholeFirst, one-taken, one-counted, length-levels, sizes-forest}
 use Rattle.rules.proofs.Searches.{search-on, search-ends, search-over, search-starts, first-of-both}
 use Rattle.format.specs.declared.elements.OpenElement.{OpenElement}
@@ -65,37 +66,13 @@ module _ (es : List ElementRecord) where
       sym (inv ∙ at-drop-all (λ w. ending i n (forest kids w)) es i h ∙ ap (λ m. ending i m none) many)
 
 -- the stack of open elements
-opens-below : (xs : List OpenElement) (i n : ℕ) (x : OpenElement) → n ≤ i → opens (set xs i x) n ≡ opens xs n
-opens-below xs i zero x h = refl
-opens-below xs i (suc n) x h =
-    let ne : n ≢ i = omega arith in
-    let one = getD-set-other xs i n x no-open ne in
-    let rest = opens-below xs i n x (omega arith) in
-    λ k. one k ∷ rest k
-
-pub opens-push : (xs : List OpenElement) (n : ℕ) (x : OpenElement) → n < length xs → opens (set xs n x) (n + 1) ≡ x ∷ opens xs n
-opens-push xs n x h =
-    let one = getD-set-same xs n x no-open h in
-    let rest = opens-below xs n n x (omega arith) in
-    ap (opens (set xs n x)) (add-one n) ∙ (λ k. one k ∷ rest k)
-
-pub opens-top : (xs : List OpenElement) (n : ℕ) → 0 < n → opens xs n ≡ getD xs (n - 1) no-open ∷ opens xs (n - 1)
-opens-top xs n h = let e : n ≡ suc (n - 1) = omega arith in ap (opens xs) e
-
-length-opens : (xs : List OpenElement) (n : ℕ) → length (opens xs n) ≡ n
-length-opens xs zero = refl
-length-opens xs (suc n) = ap suc (length-opens xs n)
-
 pub closed : (xs : List OpenElement) (n : ℕ) → 0 < n → getD xs (n - 1) no-open .left ≤ 1 → opens xs (n - 1) ≡ fewer (opens xs n)
-closed xs n h low = sym (ap fewer (opens-top xs n h) ∙ cond-true _ _ _ (le-leb _ _ low))
+closed xs n h low = sym (ap fewer (stacked-top no-open xs n h) ∙ cond-true _ _ _ (le-leb _ _ low))
 
 pub lowered : (xs : List OpenElement) (n : ℕ) → 0 < n → n ≤ length xs → 1 < getD xs (n - 1) no-open .left
     → opens (set xs (n - 1) (record { left = getD xs (n - 1) no-open .left - 1; level = getD xs (n - 1) no-open .level })) n ≡ fewer (opens xs n)
 lowered xs n h within many =
-    let e : n ≡ n - 1 + 1 = omega arith in
-    let x = getD xs (n - 1) no-open in
-    let y : OpenElement = record { left = x .left - 1; level = x .level } in
-    ap (opens (set xs (n - 1) y)) e ∙ opens-push xs (n - 1) y (omega arith) ∙ sym (ap fewer (opens-top xs n h) ∙ cond-false _ _ _ (lt-leb _ _ many))
+    stacked-change no-open xs n _ h within ∙ sym (ap fewer (stacked-top no-open xs n h) ∙ cond-false _ _ _ (lt-leb _ _ many))
 
 all-fewer : (os : List OpenElement) → AllOpen os → AllOpen (fewer os)
 all-fewer [] all = tt
@@ -161,8 +138,8 @@ module _ (es : List ElementRecord) (n : ℕ) (long : length es ≡ n) where
 
   pub low-level : (p depth : ℕ) (frames : List OpenElement) → Levelled p depth frames → 0 < depth → depth ≤ getD frames (depth - 1) no-open .level
   low-level p depth frames s h =
-      let a = subst AllOpen (opens-top frames depth h) (s .sound) in
-      omega (arith, a .1, length-opens frames (depth - 1))
+      let a = subst AllOpen (stacked-top no-open frames depth h) (s .sound) in
+      omega (arith, a .1, length-stacked no-open frames (depth - 1))
 
   -- where nothing is open, all levels have been told
   pub told-all : (p depth : ℕ) (frames : List OpenElement) → Levelled p depth frames → depth ≡ 0 → p < n → (t : Tree ElementRecord) → firstTree (forest kids es) ≡ Some t → size t ≡ n → ⊥
@@ -178,7 +155,7 @@ module _ (es : List ElementRecord) (n : ℕ) (long : length es ≡ n) where
     under = opens frames (depth - 1)
 
     open-all : AllOpen (top ∷ under)
-    open-all = subst AllOpen (opens-top frames depth some) (s .sound)
+    open-all = subst AllOpen (stacked-top no-open frames depth some) (s .sound)
 
     abbrev here : ElementRecord
     here = getD es p no-element
@@ -189,7 +166,7 @@ module _ (es : List ElementRecord) (n : ℕ) (long : length es ≡ n) where
     told : (t : Tree ElementRecord) → firstTree (forest kids es) ≡ Some t → drop p (levels 1 t) ≡ top .level ∷ (levelsIn (top .level + 1) (firstTrees (here .children) behind) ++ coming-levels (fewer (top ∷ under)) (laterTrees (here .children) behind))
     told t e =
         sym (s .gives t e)
-        ∙ (λ k. coming-levels (opens-top frames depth some k) (ap (forest kids) (drop-more es p no-element (omega (arith, long))) k))
+        ∙ (λ k. coming-levels (stacked-top no-open frames depth some k) (ap (forest kids) (drop-more es p no-element (omega (arith, long))) k))
         ∙ next-levels top under (node here (firstTrees (here .children) behind)) (laterTrees (here .children) behind) (open-all .0)
 
     level-is : (t : Tree ElementRecord) → firstTree (forest kids es) ≡ Some t → getD (levels 1 t) p 0 ≡ top .level
@@ -205,7 +182,7 @@ module _ (es : List ElementRecord) (n : ℕ) (long : length es ≡ n) where
       goes-on t e = search-on (ok t) n p h (le-leb _ _ (omega (arith, level-is t e))) (s .rest t e)
 
       now-open : opens after d ≡ fewer (top ∷ under)
-      now-open = kept ∙ ap fewer (opens-top frames depth some)
+      now-open = kept ∙ ap fewer (stacked-top no-open frames depth some)
 
       still : AllOpen (opens after d)
       still = subst AllOpen (sym now-open) (all-fewer (top ∷ under) open-all)
@@ -216,10 +193,10 @@ module _ (es : List ElementRecord) (n : ℕ) (long : length es ≡ n) where
       pub opened : 0 < c → Levelled (p + 1) (d + 1) (set after d (record { left = c; level = top .level + 1 }))
       opened more-below =
           let f : OpenElement = record { left = c; level = top .level + 1 } in
-          let push : opens (set after d f) (d + 1) ≡ f ∷ opens after d = opens-push after d f (omega (arith, length-opens after d, few)) in
+          let push : opens (set after d f) (d + 1) ≡ f ∷ opens after d = stacked-push no-open after d f (omega (arith, length-stacked no-open after d, few)) in
           record {
             room = length-set after d f ∙ room;
-            low = omega (arith, length-opens after d, few);
+            low = omega (arith, length-stacked no-open after d, few);
             sound = subst AllOpen (sym push) (more-below, omega (arith, few), omega arith, still);
             gives = λ t e. ap (λ os. coming-levels os behind) push
                 ∙ (λ k. levelsIn (top .level + 1) (firstTrees (is k) behind) ++ coming-levels (now-open k) (laterTrees (is k) behind))

@@ -2,9 +2,10 @@
 -- nothing.
 use mathlib.Core.Bool.{cond}
 use mathlib.Core.List.{List, [], _∷_, _++_}
-use Prim.Native.Nat.{ℕ, zero, suc, _+_, _-_, _<_, _≤_}
+use Prim.Native.Nat.{ℕ, _-_, _<_, _≤_}
 use lib.Dec.{leb}
-use lib.ListN.{length, getD}
+use lib.ListN.{length}
+use Rattle.rules.specs.ArrayStacks.{stacked}
 use Rattle.rules.specs.Trees.{Forest, levelsIn, firstTrees, laterTrees}
 use Rattle.format.specs.declared.elements.OpenElement.{OpenElement}
 
@@ -13,8 +14,7 @@ no-open = record { left = 0; level = 0 }
 
 -- the first n, the last of them first
 abbrev pub opens : List OpenElement → ℕ → List OpenElement
-opens xs zero = []
-opens xs (suc n) = getD xs n no-open ∷ opens xs n
+opens xs n = stacked no-open xs n
 
 -- what stays open once the one on top has one child less to come
 abbrev pub fewer : List OpenElement → List OpenElement

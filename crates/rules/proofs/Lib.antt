@@ -1,3 +1,4 @@
+pub mod ArrayStacks
 pub mod Forests
 pub mod Searches
 pub mod Spans

@@ -1,3 +1,4 @@
+pub mod ArrayStacks
 pub mod Leaves
 pub mod Names
 pub mod Preorder
