@@ -17,21 +17,10 @@ pub(crate) struct Ticks {
     pub leaves: Vec<usize>,
 }
 
-// The first root that bears a name.
-fn root_named(sheet: &Sheet, name: &[u8]) -> Option<usize> {
-    for root in 0..sheet.root_count() {
-        let place = sheet.root_record(root).type_place as usize;
-        if sheet.name(sheet.type_record(place).name) == name {
-            return Some(root);
-        }
-    }
-    None
-}
-
 fn roots_named(heap: Global, sheet: &Sheet, names: &[String]) -> Result<Vec<usize>, Failure> {
     let mut roots = Vec::new(heap);
     for name in names {
-        match root_named(sheet, name.as_bytes()) {
+        match sheet.root_named(name.as_bytes()) {
             Some(root) => roots.push(root)?,
             None => return Err(Failure::UnknownColumn(name.clone()?)),
         }

@@ -1,7 +1,10 @@
 -- Types, fields and files. Assumes nothing.
-use mathlib.Core.Bool.{Bool}
+use mathlib.Core.Bool.{Bool, cond}
 use mathlib.Core.List.{List, [], _∷_, _++_}
-use Prim.Native.Nat.{ℕ}
+use Prim.Native.Nat.{ℕ, _+_}
+use Rattle.std.specs.shelf.Text.{sameBytes}
+use Rattle.std.specs.declared.option.Option.{Option}
+use Rattle.std.specs.declared.option.Option.the-variants.{Some, None}
 use Rattle.rules.specs.Names.{Name}
 
 -- what wraps one item: the kinds of lists, a FixedSizeList with its size, a Map with the detail by which two Maps are
@@ -41,3 +44,8 @@ abbrev mutual
   pub leafCodesIn : Fields → List ℕ
   leafCodesIn empty = []
   leafCodesIn (field n b t fs) = leafCodes t ++ leafCodesIn fs
+
+-- a name finds the first field that bears it; k is the number of the first field
+abbrev pub firstNamed : Name → ℕ → Fields → Option ℕ
+firstNamed name k empty = None
+firstNamed name k (field n b t fs) = cond (sameBytes n name) (Some k) (firstNamed name (k + 1) fs)

@@ -86,12 +86,15 @@ module _ (s : Sheet) where
     abbrev here : Tree TypeRecord
     here = type-tree s p
 
+    -- the top of the tree is the record at the place
+    pub type-label : label here ≡ getD (types-in s) p no-type
+    type-label = label-at here (types-in s) _ p no-type (type-stands p h .written)
+
     -- the span of a type counts the records of its tree, which stand from there on
     pub type-size : getD (types-in s) p no-type .span ≡ size here
     type-size =
         let st = type-stands p h in
-        let l = label-at here (types-in s) _ p no-type (st .written) in
-        ap (λ (t : TypeRecord). t .span) (sym l) ∙ span-is (λ (t : TypeRecord). t .children) (λ t. t .span) here (st .spans)
+        ap (λ (t : TypeRecord). t .span) (sym type-label) ∙ span-is (λ (t : TypeRecord). t .children) (λ t. t .span) here (st .spans)
 
     pub type-within : p + size here ≤ length (types-in s)
     type-within =

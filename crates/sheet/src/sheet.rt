@@ -10,6 +10,7 @@ ghost use Rattle.format.specs.Records.{no-name, no-root, no-leaf, no-expression
 use format::Fault;
 use format::inner::Layout;
 
+mod lookup;
 mod opening;
 mod trees;
 mod views;

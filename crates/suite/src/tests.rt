@@ -63,6 +63,8 @@ fn records(rt: LibcRuntime) -> Result<(), Fail> {
     check_eq(sheet.name(sheet.type_record(1).name), b"leg".as_slice())?;
     check_eq(sheet.type_record(4).kind, 0)?;
     check_eq(sheet.root_record(1).type_place, 1)?;
+    check_eq(sheet.root_named(b"leg"), Some(1))?;
+    check_eq(sheet.root_named(b"le"), None)?;
     check_eq(sheet.node_record(0).value, -2)?;
     check_eq(sheet.expression_count(), 1)?;
     check_eq(sheet.names().len(), 15)
