@@ -1,4 +1,6 @@
 //! Inner: for our own crates. The records by which accesses and casts are written down, and the pruning of types by accesses.
+#![tactic(auto)]
+
 mod accesses;
 mod paths;
 mod prune;

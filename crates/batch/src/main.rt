@@ -1,4 +1,6 @@
 //! Answers requests: a line of standard input is a request, and a line of standard output its answer.
+#![tactic(auto)]
+
 mod answer;
 mod hex;
 mod leaves;

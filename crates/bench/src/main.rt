@@ -1,5 +1,7 @@
 //! Measures how long sheets of three sizes take to open, and how long their directories take to answer. The times go to
 //! standard error.
+#![tactic(auto)]
+
 mod counts;
 mod made;
 mod measures;

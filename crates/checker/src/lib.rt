@@ -1,4 +1,6 @@
 //! Inner: for our own crates. What an expression needs of a file.
+#![tactic(auto)]
+
 mod columns;
 mod data_type;
 mod nodes;

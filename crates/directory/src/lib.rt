@@ -1,4 +1,6 @@
 //! Leaf directories: which leaves a file has, each with its root and its path.
+#![tactic(auto)]
+
 mod directory;
 mod flattened;
 mod listed;

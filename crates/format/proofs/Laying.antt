@@ -1,14 +1,13 @@
 -- Bytes without a fault are a sheet. Assumes nothing.
-use Rattle.std.proofs.Common.{◌≡◌, ℕ, ◌+◌, ◌<◌, ◌≤◌, Bool, true, false, List, [], ◌∷◌, length, is_some, Some, None, Ok, Err, Option, Result, sym, refl, ap, ◌∙◌, subst, arith}
-use Rattle.std.specs.Option.{option_map}
-use Rattle.rules.specs.Searches.{first_failing, or_else, first_found}
+use Rattle.std.proofs.Common.{◌≡◌, ℕ, Bool, false, List, length, is_some, None, Ok, Result, sym, ap, subst, arith}
+use Rattle.rules.specs.Searches.{first_failing}
 use Rattle.rules.proofs.Searches.{neither, all_pass}
 use Rattle.format.specs.declared.fault.Fault.{Fault}
 use Rattle.format.specs.declared.layout.Layout.{Layout}
-use Rattle.format.specs.Format.{Tables, Laid, Few, Each, types_at, roots_at, leaves_at, parts_at, elements_at, nodes_at, expressions_at, tables_at, record_fault, fault_of, answer, opened}
+use Rattle.format.specs.Format.{Tables, Laid, Few, Each, types_at, roots_at, leaves_at, parts_at, elements_at, nodes_at, expressions_at, tables_at, fault_of, answer, opened}
 use Rattle.format.specs.Good.{good_type, good_node, fair_at, fair_root, fair_leaf, fair_part, fair_expression, first_bad_element}
 use Rattle.format.specs.Layouts.{layout_of}
-use Rattle.format.specs.Records.{table, type_from, root_from, leaf_from, name_from, node_from, expression_from, no_root, no_leaf, no_name, no_expression}
+use Rattle.format.specs.Records.{type_from, root_from, leaf_from, name_from, node_from, expression_from, no_root, no_leaf, no_name, no_expression}
 use Rattle.format.proofs.Headers.{laid, fewer, none_mapped}
 use Rattle.format.proofs.Tables.{length-table}
 

@@ -1,6 +1,6 @@
 -- The passes over the elements. Assumes nothing.
-use Rattle.std.proofs.Common.{◌≡◌, ℕ, zero, suc, ◌+◌, ◌-◌, ◌<◌, ◌≤◌, Bool, true, false, cond, ◌&&◌, ltb, leb, ◌≢◌, List, [], ◌∷◌, ◌++◌, length, get_or, drop, set, Some, None, Option, sym, refl, ap, ◌∙◌, subst, inl, inr, append_assoc, append-nil, add-one, arith, length-append, length-drop, length-set}
-use Rattle.std.proofs.lemmas.List.{at_drop_more, at_drop_all, get_or-drop, get_or-set_same, get_or-set_other, drop_more}
+use Rattle.std.proofs.Common.{◌≡◌, ℕ, zero, suc, ◌+◌, ◌-◌, ◌<◌, ◌≤◌, Bool, true, false, cond, ◌&&◌, ltb, leb, List, [], ◌∷◌, ◌++◌, length, get_or, drop, set, Some, None, Option, sym, refl, ap, ◌∙◌, subst, append_assoc, append-nil, arith, length-drop, length-set}
+use Rattle.std.proofs.lemmas.List.{at_drop_all, get_or-drop, drop_more}
 use Rattle.std.proofs.lemmas.Bool.{le-leb, lt-leb, le-ltb, lt-ltb, cond-true, cond-false, leb-true, leb-false}
 use Rattle.rules.specs.Searches.{first_failing, earlier}
 use Rattle.rules.specs.Trees.{Tree, node, Forest, none, more, size, sizes, levels, levels_in, first_trees, later_trees, first_tree, forest, whole}

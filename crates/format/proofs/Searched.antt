@@ -1,5 +1,5 @@
 -- Searches of a section in two passes. Assumes nothing.
-use Rattle.std.proofs.Common.{◌≡◌, ℕ, ◌-◌, Bool, ◌&&◌, List, length, Option, sym, refl, ap, ◌∙◌, arith}
+use Rattle.std.proofs.Common.{◌≡◌, ℕ, ◌-◌, Bool, ◌&&◌, List, length, Option, sym, ap, ◌∙◌, arith}
 use Rattle.rules.specs.Preorder.{placed}
 use Rattle.rules.specs.Searches.{first_failing, earlier}
 use Rattle.rules.proofs.Searches.{first_of_both}

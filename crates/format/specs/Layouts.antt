@@ -1,5 +1,5 @@
 -- The header of a sheet: where its sections lie, and which fault it has. Assumes nothing.
-use Rattle.std.specs.Prelude.{ℕ, ◌+◌, ◌-◌, ◌*◌, ◌/◌, Bool, cond, ◌&&◌, ◌||◌, List, [], ◌∷◌, length, Some, None, Option, ◌==◌, nat_le, slice_index, slice_index_or}
+use Rattle.std.specs.Prelude.{ℕ, ◌+◌, ◌-◌, ◌*◌, ◌/◌, Bool, cond, ◌&&◌, ◌||◌, List, [], ◌∷◌, length, Some, Option, ◌==◌, nat_le, slice_index, slice_index_or}
 use Rattle.std.specs.Option.{option_map}
 use Rattle.rules.specs.Searches.{first_failing, first_found}
 use Rattle.format.specs.declared.fault.Fault.{Fault}

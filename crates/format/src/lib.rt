@@ -1,4 +1,6 @@
 //! The byte format of sheets: records, sections, and which fault bytes have.
+#![tactic(auto)]
+
 mod check;
 mod decode;
 mod elements;

@@ -1,5 +1,7 @@
 //! Inner: for our own crates. Which leaves of a nested type a cast needs. What is here asks that a place lies in the table of
 //! types.
+#![tactic(auto)]
+
 mod keeping;
 mod kinds;
 mod nested_schema_pruning;

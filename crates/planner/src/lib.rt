@@ -1,4 +1,6 @@
 //! Plans which leaf columns of a file are read.
+#![tactic(auto)]
+
 mod assemble;
 mod buffers;
 mod leaves;

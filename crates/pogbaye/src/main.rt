@@ -1,4 +1,6 @@
 //! Shows which leaf columns of a file are read for the columns that are asked for.
+#![tactic(auto)]
+
 mod arguments;
 mod failure;
 mod fault_text;

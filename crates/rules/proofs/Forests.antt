@@ -1,8 +1,8 @@
 -- Trees in a table: what is written is read back, and what is whole can be told from the counts alone. Assumes nothing.
-use Rattle.std.proofs.Common.{◌≡◌, ℕ, zero, suc, ◌+◌, ◌-◌, ◌<◌, ◌≤◌, Bool, true, false, ◌&&◌, eqb, leb, List, [], ◌∷◌, ◌++◌, length, get_or, drop, sym, refl, ap, ◌∙◌, subst, append_assoc, append-nil, arith, length-append}
-use Rattle.std.proofs.lemmas.Bool.{and_parts, and_from, eqb-true, eq-eqb, ne_eqb}
+use Rattle.std.proofs.Common.{◌≡◌, ℕ, zero, suc, ◌+◌, Bool, true, false, ◌&&◌, eqb, List, [], ◌∷◌, ◌++◌, length, sym, refl, ap, ◌∙◌, append_assoc, arith, length-append}
+use Rattle.std.proofs.lemmas.Bool.{and_parts, eqb-true, ne_eqb}
 use Rattle.std.proofs.lemmas.Bool.Decides.{nat_tests}
-use Rattle.rules.specs.Trees.{Tree, node, Forest, none, more, count, preorder, preorders, size, sizes, depth, depths, levels, levels_in, first_trees, later_trees, forest, whole, wholes, WrittenRead}
+use Rattle.rules.specs.Trees.{Tree, node, Forest, none, more, count, preorder, preorders, size, sizes, levels, levels_in, first_trees, later_trees, forest, whole, wholes, WrittenRead}
 
 module _ {A : Type 0} where
   -- one forest behind another

@@ -1,10 +1,10 @@
 -- Trees side by side in a table whose records are all placed: what the tree at a place is made of, and how a reader goes
 -- from tree to tree. Assumes nothing.
-use Rattle.std.proofs.Common.{◌≡◌, ℕ, zero, suc, ◌+◌, ◌-◌, ◌<◌, ◌≤◌, Bool, true, false, ◌&&◌, eqb, ltb, List, [], ◌∷◌, ◌++◌, length, get_or, drop, unwrap_or, sym, refl, ap, ◌∙◌, subst, append_assoc, arith}
+use Rattle.std.proofs.Common.{◌≡◌, ℕ, zero, suc, ◌+◌, ◌<◌, ◌≤◌, true, List, length, get_or, drop, unwrap_or, sym, refl, ap, ◌∙◌, subst, arith}
 use Rattle.std.proofs.lemmas.List.{drop_more}
-use Rattle.std.proofs.lemmas.Bool.{and_parts, and_from, ltb-true, lt-ltb, eqb-true, eq-eqb}
+use Rattle.std.proofs.lemmas.Bool.{and_parts, and_from, ltb-true, lt-ltb, eqb-true}
 use Rattle.rules.specs.Preorder.{fills, placed, tree_at}
-use Rattle.rules.specs.Trees.{Tree, node, Forest, none, more, label, below, count, size, sizes, first_tree, first_trees, later_trees, forest}
+use Rattle.rules.specs.Trees.{Tree, node, Forest, none, more, first_tree, first_trees, forest}
 use Rattle.rules.proofs.Forests.{join}
 use Rattle.rules.proofs.Walks.{fills_forward, placed_parts}
 use Rattle.rules.proofs.Spans.{found}

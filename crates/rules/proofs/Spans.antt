@@ -1,10 +1,10 @@
 -- A tree stands at every place of a table whose records are all placed. Assumes nothing.
-use Rattle.std.proofs.Common.{◌≡◌, ℕ, zero, suc, ◌+◌, ◌-◌, ◌<◌, ◌≤◌, Bool, true, false, cond, ◌&&◌, ltb, leb, List, [], ◌∷◌, ◌++◌, length, get_or, drop, unwrap_or, sym, refl, ap, ◌∙◌, subst, inl, inr, append_assoc, arith}
+use Rattle.std.proofs.Common.{◌≡◌, ℕ, zero, suc, ◌+◌, ◌-◌, ◌<◌, ◌≤◌, Bool, true, false, cond, ltb, List, ◌∷◌, ◌++◌, length, get_or, drop, unwrap_or, sym, refl, ap, ◌∙◌, subst, inl, inr, append_assoc, arith}
 use Rattle.std.proofs.lemmas.List.{drop_more}
 use Rattle.std.proofs.lemmas.Bool.{and_parts, and_from, ltb-true, lt-ltb, eqb-true, eq-eqb, cases_lt}
 use Rattle.std.proofs.lemmas.Bool.Decides.{nat_tests}
 use Rattle.rules.specs.Preorder.{fills, around, level_at, placed, tree_at, Spanned, AllSpanned, Stands}
-use Rattle.rules.specs.Trees.{Tree, node, Forest, none, more, label, below, count, preorder, preorders, size, sizes, depth, depths, first_tree, first_trees, later_trees, forest, whole, wholes}
+use Rattle.rules.specs.Trees.{node, Forest, none, more, count, preorder, preorders, sizes, depths, first_tree, first_trees, later_trees, forest, whole, wholes}
 use Rattle.rules.proofs.Forests.{join, first_join, later_join}
 use Rattle.rules.proofs.Walks.{fills_forward, around_more, nested, placed_parts}
 

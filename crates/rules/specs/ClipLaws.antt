@@ -1,5 +1,5 @@
 -- The law of clipping: which leaves a clip keeps, by the pairs that are kept entire. Assumes nothing.
-use Rattle.std.specs.Prelude.{◌≡◌, ℕ, ◌+◌, ◌<◌, ◌≤◌, Bool, true, false, List, map, Some, slice_index}
+use Rattle.std.specs.Prelude.{◌≡◌, ℕ, ◌+◌, ◌<◌, ◌≤◌, Bool, true, false, map, Some, slice_index}
 use Rattle.rules.specs.Keeping.{kept_type, kept_leaves, clipped}
 use Rattle.rules.specs.Names.{Name}
 use Rattle.rules.specs.RootPlan.{is_listed}

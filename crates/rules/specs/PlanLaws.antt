@@ -1,9 +1,9 @@
 -- The laws of read plans: exactly which leaves are read, exactly which fields are kept. Assumes nothing.
-use Rattle.std.specs.Prelude.{◌≡◌, ℕ, zero, suc, ◌+◌, ◌<◌, Bool, true, false, cond, ◌&&◌, List, [], ◌∷◌, ◌++◌, length, Some, None, Option, nat_lt, slice_index}
-use Rattle.std.specs.List.{range_with_len, slice_get}
+use Rattle.std.specs.Prelude.{◌≡◌, ℕ, zero, suc, ◌+◌, ◌<◌, Bool, true, false, cond, ◌&&◌, List, [], ◌∷◌, length, Some, nat_lt, slice_index}
+use Rattle.std.specs.List.{slice_get}
 use Rattle.rules.specs.Expressions.{Expr}
 use Rattle.rules.specs.Findings.{accesses_of, casts_of}
-use Rattle.rules.specs.Keeping.{kept_type, kept_leaves, clipped}
+use Rattle.rules.specs.Keeping.{kept_leaves, clipped}
 use Rattle.rules.specs.Leaves.{Leaf, roots, NeverFalls}
 use Rattle.rules.specs.ReadPlan.{Reading, unread, entire, along, narrowed, leaves_on, first_number, is_along, read_keep, kept_field, ReadPlan, plan_by, all_collected, collection_reading, filter_reading, read_plan}
 use Rattle.rules.specs.RootPlan.{is_listed}

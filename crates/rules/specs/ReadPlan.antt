@@ -1,5 +1,5 @@
 -- The plan of a list of expressions, and of a filter: which leaves are read, and the projected schema. Assumes nothing.
-use Rattle.std.specs.Prelude.{ℕ, ◌+◌, Bool, true, false, cond, not, ◌&&◌, ◌||◌, List, [], ◌∷◌, ◌++◌, map, length, Some, None, Option, ◌==◌}
+use Rattle.std.specs.Prelude.{ℕ, ◌+◌, Bool, true, false, cond, not, ◌&&◌, List, [], ◌∷◌, ◌++◌, map, length, Some, None, Option, ◌==◌}
 use Rattle.std.specs.List.{flat_map}
 use Rattle.rules.specs.Names.{Name}
 use Rattle.rules.specs.Types.{Ty, Fields, empty, field, File, leaf_count_of, type_at, bears_at, contains_struct, same_type}

@@ -1,7 +1,7 @@
 -- The plan that reads listed roots whole. Assumes nothing.
 use Rattle.std.specs.Prelude.{ℕ, ◌+◌, ◌-◌, Bool, false, cond, ◌||◌, List, [], ◌∷◌, ◌++◌, length, replicate, ◌==◌}
 use Rattle.rules.specs.Leaves.{Leaf}
-use Rattle.rules.specs.Types.{Fields, empty, field, File}
+use Rattle.rules.specs.Types.{empty, field, File}
 
 abbrev pub is_listed : List ℕ → ℕ → Bool
 is_listed [] x = false

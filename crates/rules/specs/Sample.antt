@@ -4,7 +4,7 @@ use Rattle.rules.specs.Expressions.{Expr, column, literal, text, get_field, cast
 use Rattle.rules.specs.Leaves.{Leaf}
 use Rattle.rules.specs.Names.{Name}
 use Rattle.rules.specs.ReadPlan.{ReadPlan, every, read_plan, filter_plan}
-use Rattle.rules.specs.Types.{Ty, leaf, struct, wrap, list, Fields, empty, field, File}
+use Rattle.rules.specs.Types.{Ty, leaf, struct, wrap, list, empty, field, File}
 
 -- id, an integer; leg, a Struct of px {bid, ask} and qty; fills, a List of Structs of firm, lot and tag
 abbrev pub prices : Ty

@@ -1,5 +1,7 @@
 //! The words that every promise is written in: trees, types, leaves, plans. They stand in specs/; the functions here
 //! carry the laws that pin them.
+#![tactic(auto)]
+
 ghost use Rattle.std.specs.Prelude.{ℕ};
 ghost use Rattle.rules.specs.ClipLaws.{ClipsExact};
 ghost use Rattle.rules.specs.PlanLaws.{PlansExact};

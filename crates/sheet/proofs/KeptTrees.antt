@@ -1,5 +1,5 @@
 -- What is kept of a tree is no larger. Assumes nothing.
-use Rattle.std.proofs.Common.{ℕ, suc, ◌+◌, ◌≤◌, arith}
+use Rattle.std.proofs.Common.{◌≤◌, arith}
 use Rattle.rules.specs.Keeping.{Keep, all, within, among, Keeps, end, without, with}
 use Rattle.rules.specs.Trees.{Tree, node, Forest, none, more, count, size, sizes}
 use Rattle.format.specs.declared.records.TypeRecord.{TypeRecord}

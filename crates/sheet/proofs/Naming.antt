@@ -1,5 +1,5 @@
 -- The root that a name means. Assumes nothing.
-use Rattle.std.proofs.Common.{◌≡◌, ℕ, ◌+◌, ◌<◌, ◌≤◌, Bool, true, false, cond, List, [], ◌∷◌, length, get_or, drop, Some, None, Decides, Option, sym, refl, ap, ◌∙◌, arith}
+use Rattle.std.proofs.Common.{◌≡◌, ℕ, ◌+◌, ◌<◌, ◌≤◌, Bool, true, false, cond, length, get_or, drop, Some, None, Decides, Option, sym, ap, ◌∙◌, arith}
 use lib.ListN.{length-map}
 use Rattle.std.proofs.lemmas.Slice.Eq.{bytes_eq-Decides}
 use Rattle.std.proofs.lemmas.List.{at_drop_more, at_drop_all, get_or-map}
@@ -7,7 +7,7 @@ use Rattle.std.proofs.lemmas.Bool.Decides.{same_from_decides}
 use Rattle.std.specs.Str.{bytes_eq}
 use Rattle.rules.specs.Names.{Name}
 use Rattle.rules.specs.Trees.{Tree, node, none, label}
-use Rattle.rules.specs.Types.{File, first_named}
+use Rattle.rules.specs.Types.{first_named}
 use Rattle.format.specs.declared.records.RootRecord.{RootRecord}
 use Rattle.format.specs.declared.records.TypeRecord.{TypeRecord}
 use Rattle.format.specs.Records.{name_bytes, no_root, no_type}

@@ -1,9 +1,9 @@
 -- What a reader of expressions knows at each place. Assumes nothing.
-use Rattle.std.proofs.Common.{◌≡◌, ℕ, zero, suc, ◌+◌, ◌<◌, ◌≤◌, Bool, true, false, cond, ◌&&◌, ltb, length, get_or, Some, None, vec_items, Option, sym, refl, ap, ◌∙◌, subst, arith, lit<}
+use Rattle.std.proofs.Common.{◌≡◌, ℕ, suc, ◌+◌, ◌<◌, ◌≤◌, true, length, get_or, vec_items, Option, ap, ◌∙◌, subst, arith, lit<}
 use Rattle.std.proofs.lemmas.Bool.{and_parts, ltb-true}
-use Rattle.rules.specs.Expressions.{Expr, Exprs, done, arg}
-use Rattle.rules.specs.Preorder.{fills, placed}
-use Rattle.rules.specs.Trees.{Tree, node, Forest, none, more}
+use Rattle.rules.specs.Expressions.{Exprs, done, arg}
+use Rattle.rules.specs.Preorder.{fills}
+use Rattle.rules.specs.Trees.{node, Forest, more}
 use Rattle.rules.proofs.Forests.{join}
 use Rattle.rules.proofs.Rows.{row_at, unrolled, row_more, row_join, children_fill_lem, span_some, span_within, fills_next, fills_none}
 use Rattle.format.specs.declared.kinds.NodeKind.{NodeKind}

@@ -1,18 +1,17 @@
 -- What a reader of types knows at each place. Assumes nothing.
-use Rattle.std.proofs.Common.{◌≡◌, ℕ, zero, suc, ◌+◌, ◌<◌, ◌≤◌, Bool, true, false, cond, ◌&&◌, eqb, ltb, List, [], ◌∷◌, length, get_or, Some, None, Option, sym, refl, ap, ◌∙◌, subst, arith}
+use Rattle.std.proofs.Common.{◌≡◌, ℕ, suc, ◌+◌, ◌<◌, ◌≤◌, Bool, true, false, cond, eqb, ltb, length, get_or, Some, None, Option, sym, refl, ap, ◌∙◌, subst, arith}
 use Rattle.std.proofs.lemmas.Bool.{and_parts, eqb-true}
 use Rattle.rules.specs.Names.{Name}
-use Rattle.rules.specs.Preorder.{fills, placed}
-use Rattle.rules.specs.Trees.{Tree, node, Forest, none, more, label, size, sizes}
-use Rattle.rules.specs.Types.{Wrapper, list, large_list, list_view, large_list_view, fixed_size_list, map, Ty, leaf, struct, wrap, Fields, empty, field, wrapper_kind, wrapper_detail}
-use Rattle.rules.proofs.Rows.{row_at, unrolled, row_more, row_join, children_fill_lem, span_some, span_within, fills_next, fills_none}
-use Rattle.rules.proofs.Forests.{join}
+use Rattle.rules.specs.Preorder.{fills}
+use Rattle.rules.specs.Trees.{node, Forest, more}
+use Rattle.rules.specs.Types.{Wrapper, list, large_list, list_view, large_list_view, fixed_size_list, map, leaf, struct, wrap, Fields, field, wrapper_kind, wrapper_detail}
+use Rattle.rules.proofs.Rows.{row_at, unrolled, row_more, children_fill_lem, span_some, span_within, fills_next, fills_none}
 use Rattle.format.specs.declared.kinds.TypeKind.{TypeKind}
 use Rattle.format.specs.declared.kinds.TypeKind.TheVariants.{Leaf, Struct, List as ListKind, LargeList, ListView, LargeListView, FixedSizeList, Map}
 use Rattle.format.specs.declared.records.TypeRecord.{TypeRecord}
 use Rattle.format.specs.Good.{type_children}
 use Rattle.format.specs.Kinds.{type_kind_of}
-use Rattle.format.specs.Records.{no_type, by_place, name_bytes}
+use Rattle.format.specs.Records.{no_type, name_bytes}
 use Rattle.sheet.specs.declared.sheet.Sheet.{Sheet}
 use Rattle.sheet.specs.Seen.{names_in, types_in}
 use Rattle.sheet.specs.SheetTrees.{type_tree, type_of, fields_of, by_kind, wrapped, is_nullable}

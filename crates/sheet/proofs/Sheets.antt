@@ -1,5 +1,5 @@
 -- What a reader knows of every sheet. Assumes nothing.
-use Rattle.std.proofs.Common.{◌≡◌, ℕ, ◌+◌, ◌<◌, ◌≤◌, Bool, true, false, ◌&&◌, List, ◌∷◌, ◌++◌, length, get_or, take, drop, vec_items, sym, refl, ap, ◌∙◌, subst, arith, lit<, length-append, length-drop}
+use Rattle.std.proofs.Common.{◌≡◌, ℕ, ◌+◌, ◌<◌, ◌≤◌, true, List, ◌++◌, length, get_or, take, drop, vec_items, sym, ap, ◌∙◌, arith, lit<, length-append, length-drop}
 use Rattle.std.proofs.lemmas.List.{get_or-drop, take-append-le, take_all}
 use Rattle.std.proofs.lemmas.Bool.{and_parts, ltb-true}
 use Rattle.rules.specs.Preorder.{placed, Spanned, Stands}
@@ -9,8 +9,8 @@ use Rattle.rules.proofs.Spans.{tree_stands}
 use Rattle.sheet.specs.declared.sheet.Sheet.{Sheet}
 use Rattle.format.specs.declared.records.TypeRecord.{TypeRecord}
 use Rattle.format.specs.declared.records.NodeRecord.{NodeRecord}
-use Rattle.format.specs.Records.{no_root, table, type_from, root_from, leaf_from, name_from, element_from, node_from, expression_from, no_type, no_node, by_place}
-use Rattle.sheet.specs.Seen.{names_in, types_in, roots_in, leaves_in, parts_in, elements_in, nodes_in, expressions_in}
+use Rattle.format.specs.Records.{no_root, type_from, root_from, leaf_from, name_from, element_from, node_from, no_type, no_node, by_place}
+use Rattle.sheet.specs.Seen.{types_in, roots_in, leaves_in, parts_in, elements_in, nodes_in}
 use Rattle.sheet.specs.SheetTrees.{type_tree, node_tree, TreesStand}
 use Rattle.format.proofs.Tables.{length-table}
 

@@ -1,5 +1,5 @@
 -- What is kept of a tree of type records. Assumes nothing.
-use Rattle.std.specs.Prelude.{ℕ, suc}
+use Rattle.std.specs.Prelude.{suc}
 use Rattle.rules.specs.Keeping.{Keep, all, within, among, Keeps, end, without, with}
 use Rattle.rules.specs.Trees.{Tree, node, Forest, none, more, count, sizes}
 use Rattle.format.specs.declared.records.TypeRecord.{TypeRecord}

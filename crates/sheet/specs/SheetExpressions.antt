@@ -1,5 +1,5 @@
 -- The expressions that an opened sheet stands for. Assumes nothing.
-use Rattle.std.specs.Prelude.{ℕ, Bool, cond, List, length, Some, None, Option, nat_lt, slice_index_or}
+use Rattle.std.specs.Prelude.{ℕ, cond, length, Some, None, Option, nat_lt, slice_index_or}
 use Rattle.rules.specs.Expressions.{Literal, null, text, integer, Expr, column, literal, get_field, cast, is_null, is_not_null, input_file_name, file_row_index, scalar_function, operator, Exprs, done, arg}
 use Rattle.rules.specs.Trees.{Tree, node, Forest, none, more}
 use Rattle.rules.specs.Types.{Ty}

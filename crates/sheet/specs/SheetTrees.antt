@@ -1,13 +1,11 @@
 -- The trees that an opened sheet stands for. Assumes nothing.
-use Rattle.std.specs.Prelude.{◌≡◌, ℕ, ◌<◌, Bool, false, cond, List, [], ◌∷◌, map, length, Some, None, Option, ◌==◌}
-use Rattle.rules.specs.Names.{Name}
+use Rattle.std.specs.Prelude.{ℕ, ◌<◌, Bool, List, [], ◌∷◌, map, length, Some, None, Option, ◌==◌}
 use Rattle.rules.specs.Preorder.{tree_at, Stands}
 use Rattle.rules.specs.Trees.{Tree, node, Forest, none, more, label, first_tree, forest}
 use Rattle.rules.specs.Types.{Wrapper, list, large_list, list_view, large_list_view, fixed_size_list, map as mapOf, Ty, leaf, struct, wrap, Fields, empty, field, File}
 use Rattle.format.specs.declared.kinds.TypeKind.{TypeKind}
 use Rattle.format.specs.declared.kinds.TypeKind.TheVariants.{Leaf, Struct, List as ListKind, LargeList, ListView, LargeListView, FixedSizeList, Map}
 use Rattle.format.specs.declared.records.TypeRecord.{TypeRecord}
-use Rattle.format.specs.declared.records.RootRecord.{RootRecord}
 use Rattle.format.specs.declared.records.NodeRecord.{NodeRecord}
 use Rattle.format.specs.declared.records.ElementRecord.{ElementRecord}
 use Rattle.sheet.specs.declared.sheet.Sheet.{Sheet}

@@ -1,4 +1,6 @@
 //! Sheets: a file's schema, its leaves and expressions over it, packed into bytes.
+#![tactic(auto)]
+
 mod sheet;
 
 pub use format::{

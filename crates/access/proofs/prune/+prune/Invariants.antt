@@ -7,4 +7,4 @@ abbrev pub decreases-prune : goal.decreases-prune
 decreases-prune l = type_span l.sheet.now l.place
 
 abbrev pub invariant-loop-k : goal.invariant-loop-k
-invariant-loop-k l = Pruning l.sheet (left l.sheet l.depth l.accesses) l.place l.at l.initial.fields l.-k l.child l.end l.children l.fields
+invariant-loop-k l = Pruning l.sheet (left l.sheet l.depth l.accesses) l.place l.at l.initial.fields l._k l.child l.end l.children l.fields

@@ -6,23 +6,23 @@ use Rattle.access.proofs.prune.copy_type.Goals as goal
 pub loop-k-init : goal.loop-k-init
 loop-k-init c = none_copied c.args.sheet.now c.args.place c.args.at c.args.fields.now
 
-pub overflow-add-place : goal.overflow-add-place
-overflow-add-place c =
-    let w = span_within c.args.sheet.now c.args.place c.type-record-span.result c.requires.there c.type-record-span.ensures in
+pub overflow_add-place : goal.overflow_add-place
+overflow_add-place c =
+    let w = span_within c.args.sheet.now c.args.place c.type_record-span.result c.requires.there c.type_record-span.ensures in
     omega (arith, w.1)
 
 pub bounds-fields-at : goal.bounds-fields-at
 bounds-fields-at c =
-    let w = span_within c.args.sheet.now c.args.place c.type-record-span.result c.requires.there c.type-record-span.ensures in
+    let w = span_within c.args.sheet.now c.args.place c.type_record-span.result c.requires.there c.type_record-span.ensures in
     omega (arith, w.0, c.requires.room)
 
 pub loop-k-preserved : goal.loop-k-preserved
 loop-k-preserved c =
-    let w = span_within c.args.sheet.now c.args.place c.type-record-span.result c.requires.there c.type-record-span.ensures in
-    one_copied c.args.sheet.now c.args.place c.args.at c.args.fields.now c.loop-k.fields c.loop-k.k c.type-record.result (omega (arith, w.0, c.requires.room)) (omega (arith, w.2)) c.type-record.ensures c.loop-k.invariant
+    let w = span_within c.args.sheet.now c.args.place c.type_record-span.result c.requires.there c.type_record-span.ensures in
+    one_copied c.args.sheet.now c.args.place c.args.at c.args.fields.now c.loop-k.fields c.loop-k.k c.type_record.result (omega (arith, w.0, c.requires.room)) (omega (arith, w.2)) c.type_record.ensures c.loop-k.invariant
 
 pub returns : goal.returns
 returns c =
-    let e = ap (λ (t : TypeRecord). t.span) c.type-record-span.ensures in
-    let a = all_copied c.args.sheet.now c.args.place c.args.at c.args.fields.now c.requires.there c.loop-k.fields c.loop-k.k c.type-record-span.result.span (omega arith) (omega arith) e c.loop-k.invariant in
+    let e = ap (λ (t : TypeRecord). t.span) c.type_record-span.ensures in
+    let a = all_copied c.args.sheet.now c.args.place c.args.at c.args.fields.now c.requires.there c.loop-k.fields c.loop-k.k c.type_record-span.result.span (omega arith) (omega arith) e c.loop-k.invariant in
     record { copied = a.0; end = a.1 }

@@ -19,26 +19,26 @@ module _ (g : given.Over) where
 
 pub loop-k-init : goal.loop-k-init
 loop-k-init g c =
-    let kids = c.children-k-end.ensures ∙ ap g.R.Preorder.kids c.record-in-parent.ensures in
+    let kids = c.children-k-end.ensures ∙ ap g.R.Preorder.kids c.record_in-parent.ensures in
     begin (spans g c.args.bytes.now c.args.section.start c.args.section.count) _ c.children-k-end.result (c.args.place + 1) _ kids
 
 pub returns-then-at-end : goal.returns-then-at-end
 returns-then-at-end g c =
     let s = spans g c.args.bytes.now c.args.section.start c.args.section.count in
-    to_end s _ _ c.args.place c.span.result (c.span.ensures ∙ ap g.R.Preorder.reach c.record-in-parent.ensures)
-    (walk_ends s c.children-k-end.result c.loop-k.-k c.loop-k.at _ c.loop-k-test.true c.if-at-end.true c.loop-k.invariant)
+    to_end s _ _ c.args.place c.span.result (c.span.ensures ∙ ap g.R.Preorder.reach c.record_in-parent.ensures)
+    (walk_ends s c.children-k-end.result c.loop-k._k c.loop-k.at _ c.loop-k-test.true c.if-at-end.true c.loop-k.invariant)
 
 pub loop-k-preserved : goal.loop-k-preserved
 loop-k-preserved g c =
     let s = spans g c.args.bytes.now c.args.section.start c.args.section.count in
     let end = c.args.place + c.span.result in
-    let left = c.children-k-end.result - (c.loop-k.-k + 1) in
-    let here = c.span-in-loop-k.ensures ∙ ap g.R.Preorder.reach c.record-in-child.ensures in
-    walk_on s c.children-k-end.result c.loop-k.-k c.loop-k.at end c.loop-k-test.true c.if-at-end.false c.loop-k.invariant
+    let left = c.children-k-end.result - (c.loop-k._k + 1) in
+    let here = c.span-in-loop-k.ensures ∙ ap g.R.Preorder.reach c.record_in-child.ensures in
+    walk_on s c.children-k-end.result c.loop-k._k c.loop-k.at end c.loop-k-test.true c.if-at-end.false c.loop-k.invariant
     ∙ ap (λ m. fills s left (c.loop-k.at + m) end) (sym here)
 
 pub returns : goal.returns
 returns g c =
     let s = spans g c.args.bytes.now c.args.section.start c.args.section.count in
-    to_end s _ _ c.args.place c.span.result (c.span.ensures ∙ ap g.R.Preorder.reach c.record-in-parent.ensures)
-    (walk_over s _ c.children-k-end.result c.loop-k.-k c.loop-k.at _ c.loop-k-test.false c.loop-k.invariant)
+    to_end s _ _ c.args.place c.span.result (c.span.ensures ∙ ap g.R.Preorder.reach c.record_in-parent.ensures)
+    (walk_over s _ c.children-k-end.result c.loop-k._k c.loop-k.at _ c.loop-k-test.false c.loop-k.invariant)

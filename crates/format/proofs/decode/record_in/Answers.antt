@@ -8,14 +8,14 @@ returns-then-place-section g c =
     let s = c.args.section in
     c.none.ensures ∙ sym (record_past R.width R.from c.args.bytes.now s.start s.count R.blank c.args.place c.if-place-section.true)
 
-pub overflow-mul-size : goal.overflow-mul-size
-overflow-mul-size g c =
+pub overflow_mul-size : goal.overflow_mul-size
+overflow_mul-size g c =
     let R = g.R.Record in
     let s = c.args.section in
     omega (arith, record_inside R.width R.from c.args.bytes.now s.start s.count c.args.place c.if-place-section.false c.requires.inside, ap (λ w. w * c.args.place) c.size.ensures)
 
-pub overflow-add-section : goal.overflow-add-section
-overflow-add-section g c =
+pub overflow_add-section : goal.overflow_add-section
+overflow_add-section g c =
     let R = g.R.Record in
     let s = c.args.section in
     omega (arith, record_inside R.width R.from c.args.bytes.now s.start s.count c.args.place c.if-place-section.false c.requires.inside, ap (λ w. w * c.args.place) c.size.ensures)

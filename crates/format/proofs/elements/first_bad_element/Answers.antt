@@ -1,4 +1,4 @@
-use Rattle.std.proofs.Common.{◌≡◌, ℕ, ◌-◌, leb, length, get_or, sym, ap, ◌∙◌, subst, arith}
+use Rattle.std.proofs.Common.{◌-◌, leb, get_or, sym, ap, ◌∙◌, arith}
 use Rattle.rules.specs.Searches.{first_failing}
 use Rattle.rules.specs.Trees.{levels}
 use Rattle.format.specs.Format.{elements_at}
@@ -14,11 +14,11 @@ returns-then-section-eq0 c =
     let n = length-table 6 element_from c.args.bytes.now l.elements.start l.elements.count in
     none_bad l (elements_at l c.args.bytes.now) (n ∙ c.if-section-eq0.true)
 
-pub returns-in-default : goal.returns-in-default
-returns-in-default c =
+pub returns-in_default : goal.returns-in_default
+returns-in_default c =
     let l = c.args.layout in
     let n = length-table 6 element_from c.args.bytes.now l.elements.start l.elements.count in
-    not_whole l (elements_at l c.args.bytes.now) (omega (arith, n)) c.in-default.ensures
+    not_whole l (elements_at l c.args.bytes.now) (omega (arith, n)) c.in_default.ensures
 
 pub returns-then-end-section : goal.returns-then-end-section
 returns-then-end-section c =
@@ -32,6 +32,6 @@ returns c =
     let es = elements_at l c.args.bytes.now in
     let n = length-table 6 element_from c.args.bytes.now l.elements.start l.elements.count in
     c.earlier.ensures
-    ∙ full_end l es (omega (arith, n)) c.in-Some.end c.in-Some.ensures (omega (arith, n)) c.first_unfair.result c.first-deep.result
+    ∙ full_end l es (omega (arith, n)) c.in-Some.end c.in-Some.ensures (omega (arith, n)) c.first_unfair.result c.first_deep.result
     (c.first_unfair.ensures ∙ ap (λ m. first_failing (fair_at (fair_element l) no_element es) 1 (m - 1)) (sym n))
-    (λ t e s. c.first-deep.ensures t e (s ∙ n) ∙ ap (first_failing (λ p. leb (get_or (levels 1 t) p 0) 32) 0) (sym n))
+    (λ t e s. c.first_deep.ensures t e (s ∙ n) ∙ ap (first_failing (λ p. leb (get_or (levels 1 t) p 0) 32) 0) (sym n))

@@ -1,4 +1,4 @@
-use Rattle.std.proofs.Common.{◌≡◌, sym, ap, arith}
+use Rattle.std.proofs.Common.{sym, ap, arith}
 use Rattle.format.specs.Opens.{opens, fewer}
 use Rattle.format.proofs.Passes.{closed, lowered}
 use Rattle.format.proofs.elements.take_child.Goals as goal

@@ -1,4 +1,4 @@
-use Rattle.std.proofs.Common.{◌≡◌, ℕ, ◌<◌, ◌≤◌, List, length, sym, ap, ◌∙◌, arith}
+use Rattle.std.proofs.Common.{ap, arith}
 use Rattle.format.specs.declared.records.ElementRecord.{ElementRecord}
 use Rattle.format.specs.Records.{table, element_from}
 use Rattle.format.proofs.Passes.{ending_starts, ending_on, ending_here, ending_never}
@@ -15,7 +15,7 @@ returns-then-pending-eq0 c =
     let l = length-table 6 element_from c.args.bytes.now s.start s.count in
     let i = c.loop-place.invariant in
     ending_here es _ _ c.if-pending-eq0.true
-    (ending_on es c.loop-place.place c.loop-place.pending c.record-in-element.result.children (omega arith) i.0 (ap (λ (e : ElementRecord). e.children) c.record-in-element.ensures) i.2)
+    (ending_on es c.loop-place.place c.loop-place.pending c.record_in-element.result.children (omega arith) i.0 (ap (λ (e : ElementRecord). e.children) c.record_in-element.ensures) i.2)
 
 pub loop-place-preserved : goal.loop-place-preserved
 loop-place-preserved c =
@@ -25,7 +25,7 @@ loop-place-preserved c =
     let i = c.loop-place.invariant in (
       omega arith,
       omega (arith, i.1),
-      ending_on es c.loop-place.place c.loop-place.pending c.record-in-element.result.children (omega arith) i.0 (ap (λ (e : ElementRecord). e.children) c.record-in-element.ensures) i.2,
+      ending_on es c.loop-place.place c.loop-place.pending c.record_in-element.result.children (omega arith) i.0 (ap (λ (e : ElementRecord). e.children) c.record_in-element.ensures) i.2,
     )
 
 pub returns : goal.returns

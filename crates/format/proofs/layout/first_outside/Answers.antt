@@ -1,4 +1,4 @@
-use Rattle.std.proofs.Common.{◌≡◌, ℕ, ◌+◌, Bool, List, length, get_or, sym, refl, ap, ◌∙◌, arith}
+use Rattle.std.proofs.Common.{◌≡◌, ℕ, ◌+◌, Bool, List, length, get_or, sym, refl, ap, ◌∙◌}
 use Rattle.std.specs.Option.{option_map}
 use Rattle.rules.proofs.Searches.{search_on, search_ends, search_over}
 use Rattle.format.specs.declared.fault.Fault.TheVariants.{BadExtent}
@@ -12,16 +12,16 @@ told bs s sec b e h = sym (h ∙ ap (λ (t : Section). lies (get_or widths s 0) 
 pub loop-number-init : goal.loop-number-init
 loop-number-init c = refl
 
-pub returns-then-not-lies-inside : goal.returns-then-not-lies-inside
-returns-then-not-lies-inside c =
+pub returns-then-not-lies_inside : goal.returns-then-not-lies_inside
+returns-then-not-lies_inside c =
     let bs = c.args.bytes.now in
-    let no = told bs c.loop-number.number c.read.result _ c.read.ensures c.if-not-lies-inside.ensures in
+    let no = told bs c.loop-number.number c.read.result _ c.read.ensures c.if-not-lies_inside.ensures in
     ap (option_map (λ s. BadExtent (s + 1))) (search_ends (lies_at bs) 8 c.loop-number.number c.loop-number-test.true no c.loop-number.invariant)
 
 pub loop-number-preserved : goal.loop-number-preserved
 loop-number-preserved c =
     let bs = c.args.bytes.now in
-    let yes = told bs c.loop-number.number c.read.result _ c.read.ensures c.if-not-lies-inside.ensures in
+    let yes = told bs c.loop-number.number c.read.result _ c.read.ensures c.if-not-lies_inside.ensures in
     search_on (lies_at bs) 8 c.loop-number.number c.loop-number-test.true yes c.loop-number.invariant
 
 pub returns : goal.returns

@@ -1,10 +1,10 @@
-use Rattle.std.proofs.Common.{◌≡◌, ℕ, ◌+◌, ◌<◌, ◌≤◌, List, get_or, sym, refl, ap, ◌∙◌, arith}
+use Rattle.std.proofs.Common.{◌+◌, refl, ap, arith}
 use Rattle.std.proofs.lemmas.Bool.{le-leb, lt-leb}
 use Rattle.std.specs.Option.{option_map}
 use Rattle.rules.proofs.Searches.{search_on, search_ends, search_over}
 use Rattle.format.specs.declared.fault.Fault.TheVariants.{TooMany}
 use Rattle.format.specs.declared.layout.Section.{Section}
-use Rattle.format.specs.Layouts.{section_at, limits, few}
+use Rattle.format.specs.Layouts.{few}
 use Rattle.format.proofs.layout.first_too_long.Goals as goal
 
 pub loop-number-init : goal.loop-number-init

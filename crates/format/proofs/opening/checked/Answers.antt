@@ -1,14 +1,13 @@
-use Rattle.std.proofs.Common.{◌≡◌, ℕ, List, length, None, sym, subst}
+use Rattle.std.proofs.Common.{length, sym, subst}
 use Rattle.format.specs.declared.layout.Layout.{Layout}
 use Rattle.format.specs.Format.{Laid, Few}
-use Rattle.format.specs.Layouts.{layout_of, layout_fault}
 use Rattle.format.proofs.Headers.{laid, fewer}
 use Rattle.format.proofs.opening.checked.Goals as goal
 
-pub first-bad-record-requires : goal.first-bad-record-requires
-first-bad-record-requires c =
+pub first_bad_record-requires : goal.first_bad_record-requires
+first_bad_record-requires c =
     let bs = c.args.bytes.now in
-    let e = c.in-ok-layout.ensures in
+    let e = c.in_ok-layout.ensures in
     record {
       laid = subst (λ (l : Layout). Laid l (length bs)) (sym e.1) (laid bs e.0);
       few = subst (λ (l : Layout). Few l) (sym e.1) (fewer bs e.0);

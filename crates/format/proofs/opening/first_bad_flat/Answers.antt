@@ -1,4 +1,3 @@
-use Rattle.std.proofs.Common.{◌∙◌}
 use Rattle.format.proofs.Searched.{found}
 use Rattle.format.proofs.opening.first_bad_flat.Goals as goal
 

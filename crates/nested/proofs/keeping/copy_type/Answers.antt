@@ -5,26 +5,26 @@ use Rattle.nested.proofs.keeping.copy_type.Goals as goal
 pub loop-k-init : goal.loop-k-init
 loop-k-init c = none_copied c.args.sheet.now c.args.place c.args.at c.args.types.now
 
-pub overflow-add-place : goal.overflow-add-place
-overflow-add-place c =
-    let w = span_is c.args.sheet.now c.args.place c.requires.there c.type-record-span.result c.type-record-span.ensures in
+pub overflow_add-place : goal.overflow_add-place
+overflow_add-place c =
+    let w = span_is c.args.sheet.now c.args.place c.requires.there c.type_record-span.result c.type_record-span.ensures in
     omega (arith, w.2)
 
-pub bounds-types-at : goal.bounds-types-at
-bounds-types-at c =
-    let w = span_is c.args.sheet.now c.args.place c.requires.there c.type-record-span.result c.type-record-span.ensures in
+pub bounds-types_at : goal.bounds-types_at
+bounds-types_at c =
+    let w = span_is c.args.sheet.now c.args.place c.requires.there c.type_record-span.result c.type_record-span.ensures in
     omega (arith, w.0, c.requires.room)
 
 pub loop-k-preserved : goal.loop-k-preserved
 loop-k-preserved c =
-    let w = span_is c.args.sheet.now c.args.place c.requires.there c.type-record-span.result c.type-record-span.ensures in
-    one_copied c.args.sheet.now c.args.place c.args.at c.args.types.now c.loop-k.types c.loop-k.k c.type-record.result (omega (arith, w.0, c.requires.room)) (omega (arith, w.1)) c.type-record.ensures c.loop-k.invariant
+    let w = span_is c.args.sheet.now c.args.place c.requires.there c.type_record-span.result c.type_record-span.ensures in
+    one_copied c.args.sheet.now c.args.place c.args.at c.args.types.now c.loop-k.types c.loop-k.k c.type_record.result (omega (arith, w.0, c.requires.room)) (omega (arith, w.1)) c.type_record.ensures c.loop-k.invariant
 
 pub returns : goal.returns
 returns c =
-    let w = span_is c.args.sheet.now c.args.place c.requires.there c.type-record-span.result c.type-record-span.ensures in
-    let all : c.loop-k.k ≡ c.type-record-span.result.span = omega arith in
+    let w = span_is c.args.sheet.now c.args.place c.requires.there c.type_record-span.result c.type_record-span.ensures in
+    let all : c.loop-k.k ≡ c.type_record-span.result.span = omega arith in
     record {
-      copied = all_copied c.args.sheet.now c.args.place c.args.at c.args.types.now c.requires.there c.loop-k.types c.loop-k.k c.type-record-span.result.span all w.0 c.loop-k.invariant;
+      copied = all_copied c.args.sheet.now c.args.place c.args.at c.args.types.now c.requires.there c.loop-k.types c.loop-k.k c.type_record-span.result.span all w.0 c.loop-k.invariant;
       end = ap (λ n. c.args.at + n) w.0;
     }

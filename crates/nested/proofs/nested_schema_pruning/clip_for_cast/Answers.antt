@@ -18,7 +18,7 @@ returns-in-Err c = clip_void c.args.sheet.now c.args.place c.args.goal c.in-Err.
 
 pub returns-then-progress-eq0 : goal.returns-then-progress-eq0
 returns-then-progress-eq0 c =
-    let did = c.in-default.ensures in
+    let did = c.in_default.ensures in
     elim c.then-progress-eq0.either [
       | inl e ↦ clip_none c.args.sheet.now c.args.place c.args.goal c.args.table.now c.clip.new.progress c.clip.new.table did.adds did.refuses e
       | inr e ↦ clip_all c.args.sheet.now c.args.place c.args.goal c.args.table.now c.clip.new.progress c.clip.new.table did.adds did.refuses e.1
@@ -26,14 +26,14 @@ returns-then-progress-eq0 c =
 
 pub returns : goal.returns
 returns c =
-    let did = c.in-default.ensures in
+    let did = c.in_default.ensures in
     clip_some c.args.sheet.now c.args.place c.args.goal c.args.table.now c.clip.new.progress c.clip.new.table did.adds did.refuses c.if-progress-eq0.false c.if-progress.false
 
 -- the counts lie in the table
-pub invariant-of-result : goal.invariant-of-result
-invariant-of-result c =
+pub invariant_of-result : goal.invariant_of-result
+invariant_of-result c =
     let s = c.args.sheet.now in
-    let did = c.in-default.ensures.adds in
+    let did = c.in_default.ensures.adds in
     let k = clip_at s c.args.place c.args.goal in
     let few = leaves_fit s c.args.place c.requires.here in
     let short = tree_fits s c.args.place c.requires.here in (

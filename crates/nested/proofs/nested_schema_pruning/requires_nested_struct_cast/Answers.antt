@@ -11,26 +11,26 @@ pub returns-in-Structs : goal.returns-in-Structs
 returns-in-Structs c =
     let s = c.args.sheet.now in
     let l = c.loop-here in
-    let both = are_structs s l.here l.there l.invariant.here l.invariant.there c.type-record.result c.type-record-in-loop-here.result c.type-record.ensures c.type-record-in-loop-here.ensures c.in-Structs.ensures in
+    let both = are_structs s l.here l.there l.invariant.here l.invariant.there c.type_record.result c.type_record-in-loop-here.result c.type_record.ensures c.type_record-in-loop-here.ensures c.in-Structs.ensures in
     cast_structs s l.here l.there l.invariant.here l.invariant.there both ∙ sym l.invariant.same
 
 pub returns-in-Others : goal.returns-in-Others
 returns-in-Others c =
     let s = c.args.sheet.now in
     let l = c.loop-here in
-    let both = are_others s l.here l.there l.invariant.here l.invariant.there c.type-record.result c.type-record-in-loop-here.result c.type-record.ensures c.type-record-in-loop-here.ensures c.in-Others.ensures in
+    let both = are_others s l.here l.there l.invariant.here l.invariant.there c.type_record.result c.type_record-in-loop-here.result c.type_record.ensures c.type_record-in-loop-here.ensures c.in-Others.ensures in
     sym (l.invariant.same ∙ both.cast)
 
-pub overflow-add-here : goal.overflow-add-here
-overflow-add-here c = omega (arith, few_types c.args.sheet.now, c.loop-here.invariant.here)
+pub overflow_add-here : goal.overflow_add-here
+overflow_add-here c = omega (arith, few_types c.args.sheet.now, c.loop-here.invariant.here)
 
-pub overflow-add-there : goal.overflow-add-there
-overflow-add-there c = omega (arith, few_types c.args.sheet.now, c.loop-here.invariant.there)
+pub overflow_add-there : goal.overflow_add-there
+overflow_add-there c = omega (arith, few_types c.args.sheet.now, c.loop-here.invariant.there)
 
 items : (c : In-Lists) → AreLists c.args.sheet.now c.loop-here.here c.loop-here.there
 items c =
     let l = c.loop-here in
-    are_lists c.args.sheet.now l.here l.there l.invariant.here l.invariant.there c.type-record.result c.type-record-in-loop-here.result c.type-record.ensures c.type-record-in-loop-here.ensures c.in-Lists.ensures
+    are_lists c.args.sheet.now l.here l.there l.invariant.here l.invariant.there c.type_record.result c.type_record-in-loop-here.result c.type_record.ensures c.type_record-in-loop-here.ensures c.in-Lists.ensures
 
 pub loop-here-smaller : goal.loop-here-smaller
 loop-here-smaller c = omega (arith, (items c).span)

@@ -14,4 +14,4 @@ returns-then-one-other c =
     let other = c.args.other in
     let names = names_in c.args.sheet.now in
     let says = names_compare c.eq.result c.name.result.now c.name-then-one-other.result.now _ _ (slice_eq-Decides Decides-eqb _ _ _ c.eq.ensures) c.name.ensures c.name-then-one-other.ensures in
-    says ∙ (λ i. c.if-not-is-same-top.ensures i && (sym (eq-eqb one.nullable other.nullable c.if-one-other.true) i && bytes_eq (name_bytes names one.name) (name_bytes names other.name)))
+    says ∙ (λ i. c.if-not-is_same_top.ensures i && (sym (eq-eqb one.nullable other.nullable c.if-one-other.true) i && bytes_eq (name_bytes names one.name) (name_bytes names other.name)))

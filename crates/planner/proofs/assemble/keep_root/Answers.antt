@@ -9,6 +9,6 @@ pub returns-in-Along : goal.returns-in-Along
 returns-in-Along c =
     let s = c.args.sheet.now in
     record {
-      kept = c.prune-struct-type.ensures.copied ∙ ap (λ r. take c.args.at c.args.fields.now ++ kept_by s c.args.place (paths_on s c.args.uses.now c.args.root) r c.args.table.now) (sym c.in-Along.is);
-      end = omega (arith, c.prune-struct-type.ensures.end, kept_small (pruned_at s c.args.uses.now.accesses.now c.args.root c.args.place) (type_tree s c.args.place));
+      kept = c.prune_struct_type.ensures.copied ∙ ap (λ r. take c.args.at c.args.fields.now ++ kept_by s c.args.place (paths_on s c.args.uses.now c.args.root) r c.args.table.now) (sym c.in-Along.is);
+      end = omega (arith, c.prune_struct_type.ensures.end, kept_small (pruned_at s c.args.uses.now.accesses.now c.args.root c.args.place) (type_tree s c.args.place));
     }

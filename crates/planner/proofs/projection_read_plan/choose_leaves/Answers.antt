@@ -3,7 +3,7 @@ use Rattle.std.proofs.lemmas.List.{length-take-le}
 use Rattle.planner.proofs.Padding.{pads}
 use Rattle.planner.proofs.Chosen.{taken, passed, there, chosen}
 use Rattle.planner.proofs.projection_read_plan.choose_leaves.Goals as goal
-use Rattle.planner.proofs.projection_read_plan.choose_leaves.Goals.{in-Some+then-is-listed, in-Some+else-is-listed, in-default}
+use Rattle.planner.proofs.projection_read_plan.choose_leaves.Goals.{in-Some+then-is_listed, in-Some+else-is_listed, in_default}
 
 pub loop-leaf-preserved : goal.loop-leaf-preserved
 loop-leaf-preserved g c =
@@ -12,9 +12,9 @@ loop-leaf-preserved g c =
     let l = c.loop-leaf in
     let h : l.leaf < length ls = omega arith in
     elim c.match-root.branch [
-      | in-Some+then-is-listed w ↦ rw (w.count-is, w.mask-is) (omega (arith, l.invariant.0), taken roots ls l.mask l.count l.leaf w.in-Some.root (omega (arith, l.invariant.0)) h w.in-Some.ensures w.if-is-listed.ensures l.invariant.1)
-      | in-Some+else-is-listed w ↦ rw (w.count-is, w.mask-is) (omega (arith, l.invariant.0), passed roots ls l.mask l.count l.leaf w.in-Some.root h w.in-Some.ensures w.if-is-listed.ensures l.invariant.1)
-      | in-default w ↦ absurd (there roots ls l.leaf h w.in-default.ensures)
+      | in-Some+then-is_listed w ↦ rw (w.count-is, w.mask-is) (omega (arith, l.invariant.0), taken roots ls l.mask l.count l.leaf w.in-Some.root (omega (arith, l.invariant.0)) h w.in-Some.ensures w.if-is_listed.ensures l.invariant.1)
+      | in-Some+else-is_listed w ↦ rw (w.count-is, w.mask-is) (omega (arith, l.invariant.0), passed roots ls l.mask l.count l.leaf w.in-Some.root h w.in-Some.ensures w.if-is_listed.ensures l.invariant.1)
+      | in_default w ↦ absurd (there roots ls l.leaf h w.in_default.ensures)
     ]
 
 pub returns : goal.returns
@@ -25,6 +25,6 @@ returns g c =
     let all = chosen roots ls l.mask l.count l.leaf (omega arith) l.invariant.1 in
     let low : l.count ≤ length l.mask = omega (arith, l.invariant.0) in
     record {
-      chosen = c.blank-from.ensures ∙ pads 0 l.mask _ l.count (length c.args.mask.now) low (omega arith) all;
+      chosen = c.blank_from.ensures ∙ pads 0 l.mask _ l.count (length c.args.mask.now) low (omega arith) all;
       count = sym (length-take-le l.count l.mask low) ∙ ap length all;
     }

@@ -8,27 +8,27 @@ use Rattle.planner.specs.Targets.{targets_on}
 use Rattle.planner.proofs.Narrowing.{first_fails, second_fails, third_fails, all_hold}
 use Rattle.planner.proofs.readings.narrow.Goals as goal
 
-pub returns-then-has-access : goal.returns-then-has-access
-returns-then-has-access c =
+pub returns-then-has_access : goal.returns-then-has_access
+returns-then-has_access c =
     let s = c.args.sheet.now in
     first_fails (clip_in s c.args.place c.args.goal) (is_none (paths_on s c.args.uses.now c.args.root)) (every (same_type (type_at_place s c.args.goal)) (targets_on s c.args.uses.now.casts.now c.args.root))
-    (eqb c.args.leaf_count_lem (leaf_count_of (type_at_place s c.args.place))) c.has-access.ensures c.if-has-access.true
+    (eqb c.args.leaf_count_lem (leaf_count_of (type_at_place s c.args.place))) c.has_access.ensures c.if-has_access.true
 
-pub returns-then-has-other-target : goal.returns-then-has-other-target
-returns-then-has-other-target c =
+pub returns-then-has_other_target : goal.returns-then-has_other_target
+returns-then-has_other_target c =
     let s = c.args.sheet.now in
     second_fails (clip_in s c.args.place c.args.goal) (is_none (paths_on s c.args.uses.now c.args.root)) (every (same_type (type_at_place s c.args.goal)) (targets_on s c.args.uses.now.casts.now c.args.root))
-    (eqb c.args.leaf_count_lem (leaf_count_of (type_at_place s c.args.place))) c.has-other-target.ensures c.if-has-other-target.true
+    (eqb c.args.leaf_count_lem (leaf_count_of (type_at_place s c.args.place))) c.has_other_target.ensures c.if-has_other_target.true
 
-pub returns-then-leaf-count-count-leaves : goal.returns-then-leaf-count-count-leaves
-returns-then-leaf-count-count-leaves c =
+pub returns-then-leaf_count-count_leaves : goal.returns-then-leaf_count-count_leaves
+returns-then-leaf_count-count_leaves c =
     let s = c.args.sheet.now in
     third_fails (clip_in s c.args.place c.args.goal) (is_none (paths_on s c.args.uses.now c.args.root)) (every (same_type (type_at_place s c.args.goal)) (targets_on s c.args.uses.now.casts.now c.args.root))
-    c.args.leaf_count_lem (leaf_count_of (type_at_place s c.args.place)) (λ e. omega (arith, e, c.count-leaves.ensures, c.if-leaf-count-count-leaves.true))
+    c.args.leaf_count_lem (leaf_count_of (type_at_place s c.args.place)) (λ e. omega (arith, e, c.count_leaves.ensures, c.if-leaf_count-count_leaves.true))
 
 pub returns : goal.returns
 returns c =
     let s = c.args.sheet.now in
-    c.clip-for-cast.ensures
+    c.clip_for_cast.ensures
     ∙ all_hold (clip_in s c.args.place c.args.goal) (is_none (paths_on s c.args.uses.now c.args.root)) (every (same_type (type_at_place s c.args.goal)) (targets_on s c.args.uses.now.casts.now c.args.root))
-    c.args.leaf_count_lem (leaf_count_of (type_at_place s c.args.place)) c.has-access.ensures c.if-has-access.false c.has-other-target.ensures c.if-has-other-target.false (omega (arith, c.count-leaves.ensures, c.if-leaf-count-count-leaves.false))
+    c.args.leaf_count_lem (leaf_count_of (type_at_place s c.args.place)) c.has_access.ensures c.if-has_access.false c.has_other_target.ensures c.if-has_other_target.false (omega (arith, c.count_leaves.ensures, c.if-leaf_count-count_leaves.false))

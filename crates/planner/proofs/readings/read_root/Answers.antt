@@ -12,5 +12,5 @@ returns-in-None c =
     let s = c.args.sheet.now in
     let targets = targets_on s c.args.uses.now.casts.now c.args.root in
     let paths = paths_on s c.args.uses.now c.args.root in
-    ap (λ b. cond b entire (by_targets s c.args.place c.args.leaf_count_lem targets paths)) (sym c.is-listed.ensures ∙ c.if-is-listed.false)
-    ∙ entire_is s c.args.place c.args.leaf_count_lem targets paths c.in-Some.goal (sym (ap (option_map (type_at_place s)) c.in-Some.is) ∙ c.cast-target.ensures.is_first) c.narrow.new.table c.narrow.result c.narrow.ensures c.in-None.is
+    ap (λ b. cond b entire (by_targets s c.args.place c.args.leaf_count_lem targets paths)) (sym c.is_listed.ensures ∙ c.if-is_listed.false)
+    ∙ entire_is s c.args.place c.args.leaf_count_lem targets paths c.in-Some.goal (sym (ap (option_map (type_at_place s)) c.in-Some.is) ∙ c.cast_target.ensures.is_first) c.narrow.new.table c.narrow.result c.narrow.ensures c.in-None.is

@@ -12,8 +12,8 @@ offset-bounds-roots-count c = omega arith
 pub bounds-roots-count : goal.bounds-roots-count
 bounds-roots-count c = omega arith
 
-pub overflow-add-count : goal.overflow-add-count
-overflow-add-count c = omega arith
+pub overflow_add-count : goal.overflow_add-count
+overflow_add-count c = omega arith
 
 pub loop-root-preserved : goal.loop-root-preserved
 loop-root-preserved c =
@@ -26,8 +26,8 @@ loop-root-preserved c =
       | else-flag w ↦ subst (λ (x : ℕ × List ℕ). Listing flags (l.root + 1) x.0 x.1) (λ k. (sym w.count-is k, sym w.roots-is k)) (list_none flags l.root l.count l.roots sized h l.invariant w.if-flag.false)
     ]
 
-pub invariant-of-result : goal.invariant-of-result
-invariant-of-result c = let l = c.loop-root in (l.invariant.sized, (omega arith, (l.invariant.low, tt)))
+pub invariant_of-result : goal.invariant_of-result
+invariant_of-result c = let l = c.loop-root in (l.invariant.sized, (omega arith, (l.invariant.low, tt)))
 
 pub returns : goal.returns
 returns c =

@@ -9,42 +9,42 @@ use Rattle.checker.proofs.state.PushdownChecker.accessed_column.Goals as goal
 pub returns-then-node-eq0 : goal.returns-then-node-eq0
 returns-then-node-eq0 c =
     let k = c.args.self.now in
-    let kids = ap (λ (r : NodeRecord). r.children) c.node-record-node.ensures in
+    let kids = ap (λ (r : NodeRecord). r.children) c.node_record-node.ensures in
     field_childless (sheet_of k) k.allow_list_columns k.collect_cast_accesses c.args.place c.requires.there c.requires.kind (sym kids ∙ c.if-node-eq0.true)
 
-pub overflow-add-place : goal.overflow-add-place
-overflow-add-place c = omega (arith, c.requires.there, few_nodes (sheet_of c.args.self.now))
+pub overflow_add-place : goal.overflow_add-place
+overflow_add-place c = omega (arith, c.requires.there, few_nodes (sheet_of c.args.self.now))
 
-pub column-name-requires : goal.column-name-requires
-column-name-requires c =
+pub column_name-requires : goal.column_name-requires
+column_name-requires c =
     let k = c.args.self.now in
-    let kids = ap (λ (r : NodeRecord). r.children) c.node-record-node.ensures in
+    let kids = ap (λ (r : NodeRecord). r.children) c.node_record-node.ensures in
     first_there (sheet_of k) k.allow_list_columns k.collect_cast_accesses c.args.place c.requires.there c.requires.kind (λ z. c.if-node-eq0.false (kids ∙ z))
 
-pub returns-in-default : goal.returns-in-default
-returns-in-default c =
+pub returns-in_default : goal.returns-in_default
+returns-in_default c =
     let k = c.args.self.now in
-    let kids = ap (λ (r : NodeRecord). r.children) c.node-record-node.ensures in
-    field_other (sheet_of k) k.allow_list_columns k.collect_cast_accesses c.args.place c.requires.there c.requires.kind (λ z. c.if-node-eq0.false (kids ∙ z)) (sym c.in-default.ensures)
+    let kids = ap (λ (r : NodeRecord). r.children) c.node_record-node.ensures in
+    field_other (sheet_of k) k.allow_list_columns k.collect_cast_accesses c.args.place c.requires.there c.requires.kind (λ z. c.if-node-eq0.false (kids ∙ z)) (sym c.in_default.ensures)
 
-pub follows-path-requires : goal.follows-path-requires
-follows-path-requires c =
+pub follows_path-requires : goal.follows_path-requires
+follows_path-requires c =
     let k = c.args.self.now in
-    let at = ap (λ (r : NodeRecord). r.type_place) c.node-record-node.ensures in
+    let at = ap (λ (r : NodeRecord). r.type_place) c.node_record-node.ensures in
     omega (arith, at, field_type (sheet_of k) k.allow_list_columns k.collect_cast_accesses c.args.place c.requires.there c.requires.kind)
 
-pub returns-then-follows-path : goal.returns-then-follows-path
-returns-then-follows-path c =
+pub returns-then-follows_path : goal.returns-then-follows_path
+returns-then-follows_path c =
     let k = c.args.self.now in
     let name = c.in-Some.name.now in
-    let kids = ap (λ (r : NodeRecord). r.children) c.node-record-node.ensures in
-    let at = ap (λ (r : NodeRecord). follows k name (type_at_place (sheet_of k) r.type_place)) c.node-record-node.ensures in
-    field_path (sheet_of k) k.allow_list_columns k.collect_cast_accesses c.args.place c.requires.there c.requires.kind (λ z. c.if-node-eq0.false (kids ∙ z)) name (sym c.in-Some.ensures) (sym (c.if-follows-path.ensures ∙ at))
+    let kids = ap (λ (r : NodeRecord). r.children) c.node_record-node.ensures in
+    let at = ap (λ (r : NodeRecord). follows k name (type_at_place (sheet_of k) r.type_place)) c.node_record-node.ensures in
+    field_path (sheet_of k) k.allow_list_columns k.collect_cast_accesses c.args.place c.requires.there c.requires.kind (λ z. c.if-node-eq0.false (kids ∙ z)) name (sym c.in-Some.ensures) (sym (c.if-follows_path.ensures ∙ at))
 
-pub returns-else-follows-path : goal.returns-else-follows-path
-returns-else-follows-path c =
+pub returns-else-follows_path : goal.returns-else-follows_path
+returns-else-follows_path c =
     let k = c.args.self.now in
     let name = c.in-Some.name.now in
-    let kids = ap (λ (r : NodeRecord). r.children) c.node-record-node.ensures in
-    let at = ap (λ (r : NodeRecord). follows k name (type_at_place (sheet_of k) r.type_place)) c.node-record-node.ensures in
-    field_whole (sheet_of k) k.allow_list_columns k.collect_cast_accesses c.args.place c.requires.there c.requires.kind (λ z. c.if-node-eq0.false (kids ∙ z)) name (sym c.in-Some.ensures) (sym (c.if-follows-path.ensures ∙ at))
+    let kids = ap (λ (r : NodeRecord). r.children) c.node_record-node.ensures in
+    let at = ap (λ (r : NodeRecord). follows k name (type_at_place (sheet_of k) r.type_place)) c.node_record-node.ensures in
+    field_whole (sheet_of k) k.allow_list_columns k.collect_cast_accesses c.args.place c.requires.there c.requires.kind (λ z. c.if-node-eq0.false (kids ∙ z)) name (sym c.in-Some.ensures) (sym (c.if-follows_path.ensures ∙ at))

@@ -10,16 +10,16 @@ pub returns-in-SingleColumn : goal.returns-in-SingleColumn
 returns-in-SingleColumn c =
     let k = c.args.self.now in
     record {
-      visited = c.check-single-column.ensures.notes ∙ ap (λ (n : Name). noted (found k) (column_findings k n)) c.name.ensures
-          ∙ ap (noted (found k)) (column_needs (sheet_of k) k.allow_list_columns k.collect_cast_accesses c.args.place c.node-record-node.result c.node-record-node.ensures c.requires.there c.in-SingleColumn.ensures);
-      settings = c.check-single-column.ensures.settings;
+      visited = c.check_single_column.ensures.notes ∙ ap (λ (n : Name). noted (found k) (column_findings k n)) c.name.ensures
+          ∙ ap (noted (found k)) (column_needs (sheet_of k) k.allow_list_columns k.collect_cast_accesses c.args.place c.node_record-node.result c.node_record-node.ensures c.requires.there c.in-SingleColumn.ensures);
+      settings = c.check_single_column.ensures.settings;
     }
 
 pub returns-in-Unpushable : goal.returns-in-Unpushable
 returns-in-Unpushable c =
     let k = c.args.self.now in
     record {
-      visited = sym (ap (noted (found k)) (udf_needs (sheet_of k) k.allow_list_columns k.collect_cast_accesses c.args.place c.node-record-node.result c.node-record-node.ensures c.requires.there c.in-Unpushable.ensures));
+      visited = sym (ap (noted (found k)) (udf_needs (sheet_of k) k.allow_list_columns k.collect_cast_accesses c.args.place c.node_record-node.result c.node_record-node.ensures c.requires.there c.in-Unpushable.ensures));
       settings = record { schema = refl; lists_as = refl; casts_as = refl };
     }
 
@@ -27,6 +27,6 @@ pub returns-in-Others : goal.returns-in-Others
 returns-in-Others c =
     let k = c.args.self.now in
     record {
-      visited = (refl, others_need (sheet_of k) k.allow_list_columns k.collect_cast_accesses c.args.place c.node-record-node.result c.node-record-node.ensures c.requires.there c.in-Others.ensures);
+      visited = (refl, others_need (sheet_of k) k.allow_list_columns k.collect_cast_accesses c.args.place c.node_record-node.result c.node_record-node.ensures c.requires.there c.in-Others.ensures);
       settings = record { schema = refl; lists_as = refl; casts_as = refl };
     }

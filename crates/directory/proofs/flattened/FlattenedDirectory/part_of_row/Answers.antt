@@ -21,5 +21,5 @@ pub returns : goal.returns
 returns c =
     let d = c.args.self.now in
     let s = d.sheet.now in
-    ap Some (c.name.ensures ∙ ap (λ (e : ElementRecord). name_bytes (names_in s) e.name) c.element-record.ensures ∙ ap (name_at s) c.climb-at.ensures)
+    ap Some (c.name.ensures ∙ ap (λ (e : ElementRecord). name_bytes (names_in s) e.name) c.element_record.ensures ∙ ap (name_at s) c.climb-at.ensures)
     ∙ sym (path_at s d.parents c.args.row.parts c.args.row.element c.args.part c.if-part-parts.false)

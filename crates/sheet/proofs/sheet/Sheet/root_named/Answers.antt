@@ -1,4 +1,4 @@
-use Rattle.std.proofs.Common.{◌≡◌, cond, get_or, sym, refl, ap, ◌∙◌, arith}
+use Rattle.std.proofs.Common.{get_or, refl, ap, ◌∙◌, arith}
 use Rattle.std.proofs.lemmas.Slice.Eq.{slice_eq-Decides}
 use Rattle.format.specs.declared.records.RootRecord.{RootRecord}
 use Rattle.format.specs.declared.records.TypeRecord.{TypeRecord}
@@ -14,15 +14,15 @@ loop-root-init c = refl
 pub returns-then-eq : goal.returns-then-eq
 returns-then-eq c =
     let s = c.args.self.now in
-    let e = ap (λ (r : RootRecord). r.type_place) c.root-record-place.ensures in
-    let is = c.name-found.ensures ∙ ap (λ (t : TypeRecord). name_bytes (names_in s) t.name) c.type-record.ensures ∙ ap (λ p. name_bytes (names_in s) (get_or (types_in s) p no_type).name) e in
+    let e = ap (λ (r : RootRecord). r.type_place) c.root_record-place.ensures in
+    let is = c.name-found.ensures ∙ ap (λ (t : TypeRecord). name_bytes (names_in s) t.name) c.type_record.ensures ∙ ap (λ p. name_bytes (names_in s) (get_or (types_in s) p no_type).name) e in
     named_here s c.args.name.now c.loop-root.root c.eq.result c.name-found.result.now (omega arith) is (slice_eq-Decides Decides-eqb _ _ _ c.eq.ensures) c.if-eq.true c.loop-root.invariant
 
 pub loop-root-preserved : goal.loop-root-preserved
 loop-root-preserved c =
     let s = c.args.self.now in
-    let e = ap (λ (r : RootRecord). r.type_place) c.root-record-place.ensures in
-    let is = c.name-found.ensures ∙ ap (λ (t : TypeRecord). name_bytes (names_in s) t.name) c.type-record.ensures ∙ ap (λ p. name_bytes (names_in s) (get_or (types_in s) p no_type).name) e in
+    let e = ap (λ (r : RootRecord). r.type_place) c.root_record-place.ensures in
+    let is = c.name-found.ensures ∙ ap (λ (t : TypeRecord). name_bytes (names_in s) t.name) c.type_record.ensures ∙ ap (λ p. name_bytes (names_in s) (get_or (types_in s) p no_type).name) e in
     named_later s c.args.name.now c.loop-root.root c.eq.result c.name-found.result.now (omega arith) is (slice_eq-Decides Decides-eqb _ _ _ c.eq.ensures) c.if-eq.false c.loop-root.invariant
 
 pub returns : goal.returns
