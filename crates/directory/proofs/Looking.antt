@@ -1,5 +1,5 @@
 -- What the sections of leaves and parts answer. Assumes nothing.
-use Rattle.std.proofs.Common.{◌≡◌, ℕ, zero, suc, ◌+◌, ◌<◌, ◌≤◌, Bool, true, false, ◌&&◌, ◌||◌, eqb, leb, List, [], ◌∷◌, map, length, get_or, take, drop, Some, None, Decides, Option, sym, refl, ap, ◌∙◌, subst, inl, inr, arith, length-drop, length-take}
+use Rattle.std.proofs.Common.{◌≡◌, ℕ, zero, suc, ◌+◌, ◌<◌, ◌≤◌, Bool, true, List, [], ◌∷◌, map, length, get_or, take, drop, Some, None, Decides, Option, refl, ap, ◌∙◌, inl, inr, arith, length-drop, length-take}
 use lib.ListN.{length-map}
 use Rattle.std.proofs.lemmas.Slice.Eq.{bytes_eq-Decides}
 use Rattle.std.proofs.lemmas.List.{get_or-take, get_or-drop}
@@ -9,9 +9,8 @@ use Rattle.std.proofs.lemmas.Bool.Decides.{same_from_decides, nat_tests}
 use Rattle.std.specs.Option.{option_map}
 use Rattle.std.specs.List.{slice_get}
 use Rattle.std.specs.Str.{bytes_eq}
-use Rattle.rules.specs.Leaves.{Leaf, root_at, part_count_at, part_of, part_is}
+use Rattle.rules.specs.Leaves.{Leaf}
 use Rattle.format.specs.declared.records.LeafRecord.{LeafRecord}
-use Rattle.format.specs.declared.records.NameRef.{NameRef}
 use Rattle.format.specs.declared.layout.Layout.{Layout}
 use Rattle.format.specs.Good.{previous, fair_leaf}
 use Rattle.format.specs.Records.{name_bytes, no_leaf, no_name}

@@ -1,6 +1,6 @@
 -- The leaves that the elements of a sheet flatten. Assumes nothing.
-use Rattle.std.specs.Prelude.{◌≡◌, ℕ, zero, suc, ◌+◌, ◌<◌, ◌≤◌, List, [], ◌∷◌, ◌++◌, length, Some, None, Option, slice_index, slice_index_or, refl}
-use Rattle.std.proofs.Common.{sym, ap, subst, append_assoc, arith}
+use Rattle.std.specs.Prelude.{◌≡◌, ℕ, zero, suc, ◌+◌, ◌≤◌, List, [], ◌∷◌, ◌++◌, Some, None, Option, slice_index, slice_index_or}
+use Rattle.std.proofs.Common.{sym, subst, append_assoc, arith}
 use Rattle.rules.specs.Leaves.{Leaf, roots, NeverFalls, by_children, leaves_under, leaves_among, leaves_of_roots, flattened}
 use Rattle.rules.specs.Names.{Name}
 use Rattle.rules.specs.Trees.{Tree, node, Forest, none, more}

@@ -1,11 +1,10 @@
 -- The leaves that the sections of leaves and parts list. Assumes nothing.
-use Rattle.std.specs.Prelude.{◌≡◌, ℕ, zero, suc, ◌+◌, ◌<◌, ◌≤◌, Bool, true, false, ◌&&◌, ◌||◌, List, [], ◌∷◌, map, length, get_or, take, drop, ◌==◌, nat_le, nat_lt, slice_index_or, refl}
+use Rattle.std.specs.Prelude.{◌≡◌, ◌+◌, ◌<◌, ◌≤◌, true, ◌&&◌, ◌||◌, List, [], ◌∷◌, map, length, get_or, take, drop, ◌==◌, nat_le, nat_lt, slice_index_or, refl}
 use Rattle.std.proofs.Common.{sym, ap, subst, arith, add-one}
 use Rattle.std.proofs.lemmas.List.{get_or-map, length-map}
 use Rattle.std.proofs.lemmas.Bool.{and_parts, leb-true}
 use Rattle.rules.specs.Leaves.{Leaf, roots, NeverFalls}
 use Rattle.format.specs.declared.records.LeafRecord.{LeafRecord}
-use Rattle.format.specs.declared.records.NameRef.{NameRef}
 use Rattle.sheet.specs.declared.sheet.Sheet.{Sheet}
 use Rattle.format.specs.declared.layout.Layout.{Layout}
 use Rattle.format.specs.Good.{previous, fair_leaf}

@@ -1,5 +1,5 @@
 -- The plan of listed roots, put together. Assumes nothing.
-use Rattle.std.proofs.Common.{◌≡◌, ℕ, ◌≤◌, ltb, leb, List, length, get_or, None, Ok, Err, sym, ap, ◌∙◌}
+use Rattle.std.proofs.Common.{◌≡◌, ℕ, ◌≤◌, ltb, List, length, get_or, None, Ok, Err, sym, ap, ◌∙◌}
 use Rattle.std.proofs.lemmas.Bool.{le-leb, and_from, cond-true}
 use Rattle.rules.specs.Leaves.{Leaf}
 use Rattle.rules.specs.RootPlan.{leaves_of_listed, padded}

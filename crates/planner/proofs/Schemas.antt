@@ -2,7 +2,7 @@
 use Rattle.std.proofs.Common.{◌≡◌, ℕ, ◌+◌, Bool, true, false, cond, List, [], ◌∷◌, refl, ap}
 use Rattle.rules.specs.RootPlan.{is_listed, fields_of_listed, roots_of_listed}
 use Rattle.rules.specs.Trees.{Tree, label}
-use Rattle.rules.specs.Types.{File, field}
+use Rattle.rules.specs.Types.{field}
 use Rattle.format.specs.declared.records.TypeRecord.{TypeRecord}
 use Rattle.format.specs.Records.{name_bytes}
 use Rattle.sheet.specs.Seen.{names_in}

@@ -1,5 +1,1 @@
-pub mod ReadPlans
-pub mod Readings
 pub mod RootPlans
-pub mod Segments
-pub mod Targets

@@ -1,8 +1,8 @@
 -- The plan that reads listed roots whole, with every buffer. Assumes nothing.
-use Rattle.std.specs.Prelude.{◌≡◌, ℕ, ◌+◌, Bool, cond, ◌&&◌, List, [], ◌∷◌, ◌++◌, length, Some, None, Ok, Err, Option, Result, nat_le, nat_lt, slice_index}
+use Rattle.std.specs.Prelude.{◌≡◌, ℕ, Bool, cond, ◌&&◌, List, length, Some, None, Ok, Err, Option, Result, nat_le, nat_lt, slice_index}
 use Rattle.std.specs.List.{flat_map}
 use Rattle.rules.specs.Leaves.{Leaf}
-use Rattle.rules.specs.RootPlan.{is_listed, leaves_of_listed, fields_of_listed, roots_of_listed, padded}
+use Rattle.rules.specs.RootPlan.{leaves_of_listed, fields_of_listed, roots_of_listed, padded}
 use Rattle.rules.specs.Searches.{first_failing}
 use Rattle.rules.specs.Trees.{Tree, preorder}
 use Rattle.format.specs.declared.fault.Fault.{Fault}

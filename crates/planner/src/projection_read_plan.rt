@@ -1,6 +1,6 @@
 //! Ported from `src/projection_read_plan.rs` of the crate datafusion-datasource-parquet 55.0.0, changed: the schema is a
 //! sheet, the leaves come from a directory, and the mask and the projected schema are written to lent buffers.
-ghost use Rattle.std.specs.Prelude.{◌≡◌, ℕ, ◌+◌, ◌<◌, ◌≤◌, List, ◌++◌, length, Option, nat_lt, slice_index};
+ghost use Rattle.std.specs.Prelude.{◌≡◌, ℕ, ◌+◌, ◌<◌, ◌≤◌, List, ◌++◌, length, take, Option, nat_lt, slice_index};
 ghost use Rattle.rules.specs.RootPlan.{is_listed, leaves_of_listed, padded};
 ghost use Rattle.rules.specs.Searches.{first_failing};
 ghost use Rattle.rules.specs.Trees.{preorder, size};
@@ -11,8 +11,6 @@ ghost use Rattle.sheet.specs.SheetTrees.{type_tree};
 ghost use Rattle.planner.specs.RootPlans.{PlanAnswer, SchemaOfTheFile, root_level, listed_fields, field_records, all_records};
 
 use crate::buffers::blank_from;
-use crate::listed::is_listed;
-use access::copy_type;
 use directory::LeafDirectory;
 use sheet::{Fault, Sheet, TypeRecord};
 
@@ -20,19 +18,12 @@ use sheet::{Fault, Sheet, TypeRecord};
 /// front of the two buffers that the plan was written to.
 #[derive(Drop)]
 pub struct Plan {
-    pub(crate) leaves: usize,
-    pub(crate) fields: usize,
-    pub(crate) types: usize,
+    leaves: usize,
+    fields: usize,
+    types: usize,
 }
 
 impl Plan {
-    // A plan that reads nothing.
-    pub(crate) const EMPTY: Plan = Plan {
-        leaves: 0,
-        fields: 0,
-        types: 0,
-    };
-
     pub fn leaf_count(&self) -> usize
         ensures { result ≡ self.now.leaves }
     {
@@ -50,6 +41,17 @@ impl Plan {
     {
         self.types
     }
+}
+
+fn is_listed(roots: &[usize], root: usize) -> bool
+    ensures { result ≡ is_listed roots.now root }
+{
+    for listed in roots {
+        if *listed == root {
+            return true;
+        }
+    }
+    false
 }
 
 // The position of the first listed root that the file lacks.
@@ -79,9 +81,9 @@ pub fn field_room(sheet: &Sheet) -> usize
 
 // Writes the numbers of the leaves whose root is listed, and zeros behind them. Tells how many there are.
 fn choose_leaves<D: LeafDirectory>(directory: &D, roots: &[usize], mask: &mut [usize]) -> usize
-    requires { length (leaves directory.now) ≤ length mask.old }
-    ensures chosen { mask.new ≡ padded 0 (leaves_of_listed roots.now 0 (leaves directory.now)) (length mask.old) }
-    ensures count { result ≡ length (leaves_of_listed roots.now 0 (leaves directory.now)) }
+    requires { length (D.LeafDirectory.leaves directory.now) ≤ length mask.old }
+    ensures chosen { mask.new ≡ padded 0 (leaves_of_listed roots.now 0 (D.LeafDirectory.leaves directory.now)) (length mask.old) }
+    ensures count { result ≡ length (leaves_of_listed roots.now 0 (D.LeafDirectory.leaves directory.now)) }
 {
     let mut count = 0;
     for leaf in 0..directory.count() {
@@ -94,6 +96,20 @@ fn choose_leaves<D: LeafDirectory>(directory: &D, roots: &[usize], mask: &mut [u
     }
     blank_from(mask, count, 0);
     count
+}
+
+// Copies the type at a place, with all below it, to the front of what is left of the buffer. Tells where it ends.
+fn copy_type(sheet: &Sheet, place: usize, fields: &mut [TypeRecord], at: usize) -> usize
+    requires there { place < length (types_in sheet.now) }
+    requires room { at + size (type_tree sheet.now place) ≤ length fields.old }
+    ensures copied { take result fields.new ≡ take at fields.old ++ preorder (type_tree sheet.now place) }
+    ensures end { result ≡ at + size (type_tree sheet.now place) }
+{
+    let span = sheet.type_record(place).span as usize;
+    for k in 0..span {
+        fields[at + k] = sheet.type_record(place + k);
+    }
+    at + span
 }
 
 // Writes the fields of the listed roots, and blanks behind them. Tells how many fields and type records there are.

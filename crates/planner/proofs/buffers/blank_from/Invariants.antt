@@ -1,4 +1,3 @@
-use Rattle.std.proofs.Common.{◌≤◌}
 use Rattle.planner.proofs.Padding.{Blanked}
 use Rattle.planner.proofs.buffers.blank_from.Given as goal
 

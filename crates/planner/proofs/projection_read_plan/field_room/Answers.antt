@@ -1,4 +1,4 @@
-use Rattle.std.proofs.Common.{◌≡◌, get_or, ap, ◌∙◌, arith}
+use Rattle.std.proofs.Common.{get_or, ap, ◌∙◌, arith}
 use Rattle.format.specs.declared.records.RootRecord.{RootRecord}
 use Rattle.format.specs.declared.records.TypeRecord.{TypeRecord}
 use Rattle.format.specs.Records.{no_type}

@@ -11,8 +11,8 @@ counted roots m n e h = h ∙ ap (λ c. first_failing (λ k. ltb (get_or roots k
 pub loop-k-init : goal.loop-k-init
 loop-k-init c = search_starts (λ k. ltb (get_or c.args.roots.now k 0) c.root_count-count.result) (length c.args.roots.now)
 
-pub returns-then-root_count : goal.returns-then-root_count
-returns-then-root_count c =
+pub returns-then-root-count : goal.returns-then-root-count
+returns-then-root-count c =
     let roots = c.args.roots.now in
     let n = c.root_count-count.result in
     counted roots n _ c.root_count-count.ensures (search_ends (λ k. ltb (get_or roots k 0) n) (length roots) c.loop-k.k (omega arith) (le-ltb (get_or roots c.loop-k.k 0) n (omega arith)) c.loop-k.invariant)

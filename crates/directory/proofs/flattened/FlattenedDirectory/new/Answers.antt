@@ -55,4 +55,4 @@ invariant_of-result c =
     let paths-are = led s l.e l.count l.depth l.roots l.rows l.parents l.frames l.invariant over in
     let few : l.count ≤ 1024 = omega (arith, l.invariant.few, l.invariant.early) in
     let all = row_count l.count l.rows (flattened_leaves s) (omega (arith, l.invariant.rows_long)) roots-are in
-    ((l.invariant.rows_long, l.invariant.parents_long, few), (all, (l.invariant.inside, (l.invariant.climbs, (roots-are, (paths-are, tt))))))
+    record { long = (l.invariant.rows_long, l.invariant.parents_long, few); counted = all; inside = l.invariant.inside; climbs = l.invariant.climbs; rooted = roots-are; led = paths-are }

@@ -1,4 +1,4 @@
-use Rattle.std.proofs.Common.{sym, arith}
+use Rattle.std.proofs.Common.{sym}
 use Rattle.directory.proofs.Answered.{beyond, here, row_path}
 use Rattle.directory.proofs.flattened.FlattenedDirectory.row.Goals as goal
 

@@ -8,12 +8,12 @@ use Rattle.directory.proofs.listed.ListedDirectory.leaf_record.Goals as goal
 pub returns-then-leaf-leaf_count : goal.returns-then-leaf-leaf_count
 returns-then-leaf-leaf_count c =
     let s = c.args.self.now.sheet.now in
-    record { leaf = sym (past s c.args.leaf (omega (arith, c.leaf_count_lem.ensures))); parts = tt }
+    record { leaf = sym (past s c.args.leaf (omega (arith, c.leaf_count.ensures))); parts = tt }
 
 pub returns : goal.returns
 returns c =
     let s = c.args.self.now.sheet.now in
-    let h : c.args.leaf < length (leaves_in s) = omega (arith, c.leaf_count_lem.ensures) in
+    let h : c.args.leaf < length (leaves_in s) = omega (arith, c.leaf_count.ensures) in
     let e = c.leaf_record.ensures in
     record {
       leaf = ap (λ (r : LeafRecord). Some (listed_leaf s r)) e ∙ sym (here s c.args.leaf h);

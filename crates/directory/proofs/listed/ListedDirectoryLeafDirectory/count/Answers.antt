@@ -7,4 +7,4 @@ use Rattle.directory.proofs.listed.ListedDirectoryLeafDirectory.count.Goals as g
 pub returns : goal.returns
 returns c =
     let s = c.args.self.now.sheet.now in
-    c.leaf_count_lem.ensures ∙ sym (length-map (leaves_in s) (listed_leaf s))
+    c.leaf_count.ensures ∙ sym (length-map (leaves_in s) (listed_leaf s))
