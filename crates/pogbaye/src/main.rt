@@ -17,6 +17,7 @@ use crate::failure::Failure;
 use crate::steps::{opened, show};
 use directory::{FlattenedDirectory, ListedDirectory};
 use std::env;
+use std::process::ExitCode;
 
 const USAGE: &str = "usage: pogbaye tick [--flat] SHEET NAME...
 Prints the schema of the sheet in the file SHEET, with a tick at each leaf column that is
@@ -45,10 +46,12 @@ fn tell(rt: &HostRuntime, failure: &Failure) {
     }
 }
 
-fn main(rt: HostRuntime) -> Result<(), Failure> {
-    let result = run(&rt);
-    if let Err(failure) = &result {
-        tell(&rt, failure);
+fn main(rt: HostRuntime) -> ExitCode {
+    match run(&rt) {
+        Ok(()) => ExitCode::SUCCESS,
+        Err(failure) => {
+            tell(&rt, &failure);
+            ExitCode::FAILURE
+        }
     }
-    result
 }
