@@ -4,7 +4,7 @@ use Rattle.std.proofs.lemmas.Bool.{eq-eqb, ne_eqb}
 use Rattle.rules.specs.Keeping.{Keep, within, among, Keeps, end, without, with, kept_leaves, kept_leaves_in, is_void, are_void}
 use Rattle.rules.specs.Names.{Name}
 use Rattle.rules.specs.Trees.{Tree, node, Forest, none, more, count, preorder, preorders, sizes}
-use Rattle.rules.specs.Types.{Wrapper, Ty, leaf, struct, wrap, Fields, empty, field, leaf_count_of, leaf_count_in}
+use Rattle.rules.specs.Types.{Wrapper, Ty, struct, wrap, Fields, empty, field, leaf_count_of, leaf_count_in}
 use Rattle.rules.proofs.Written.{headed}
 use Rattle.format.specs.declared.records.TypeRecord.{TypeRecord}
 use Rattle.sheet.specs.KeptTrees.{headed_by, kept_tree, kept_forest}

@@ -10,8 +10,8 @@ overflow_add-place c =
     let w = span_is c.args.sheet.now c.args.place c.requires.there c.type_record-span.result c.type_record-span.ensures in
     omega (arith, w.2)
 
-pub bounds-types_at : goal.bounds-types_at
-bounds-types_at c =
+pub bounds-types-at : goal.bounds-types-at
+bounds-types-at c =
     let w = span_is c.args.sheet.now c.args.place c.requires.there c.type_record-span.result c.type_record-span.ensures in
     omega (arith, w.0, c.requires.room)
 

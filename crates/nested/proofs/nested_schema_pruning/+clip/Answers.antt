@@ -13,7 +13,7 @@ use Rattle.nested.specs.ClipSteps.{Added}
 use Rattle.nested.proofs.PairViews.{AreStructs, AreLists, are_structs, are_lists, are_others}
 use Rattle.nested.proofs.ClipWalks.{Walking, Turn, headless, walk_starts, turned, ends_sound, head_first, walk_ends, item_leaves, item_size, item_void, item_ends, others_sound, others_added, tree_some}
 use Rattle.nested.proofs.nested_schema_pruning.+clip.Goals as goal
-use Rattle.nested.proofs.nested_schema_pruning.+clip.Goals.{In-Structs, In-Lists, In-loop-k, in-None, in-Some+in_ok-clip-2+else-progress-before}
+use Rattle.nested.proofs.nested_schema_pruning.+clip.Goals.{In-Structs, In-Lists, In-loop-k, in-None, in-Some+in_ok-clip-in-Some+else-progress-before}
 
 -- the two Structs, the two lists
 structs : (t : ℕ) (c : In-Structs t) → AreStructs c.args.sheet.now c.args.place c.args.goal
@@ -47,24 +47,24 @@ clip-requires t c =
     let long = item_size s c.args.place c.args.goal c.requires.here c.type_record-here.result c.type_record-here.ensures both in
     (omega (arith, c.decreases, both.span), (both.item, (both.goal, (omega (arith, leaves, c.requires.room), (omega (arith, leaves, c.requires.low), omega (arith, long, c.requires.space))))))
 
-pub returns-in_err-clip : goal.returns-in_err-clip
-returns-in_err-clip t c =
-    let both = lists t (goal.at.returns-in_err-clip t c).In-Lists in
-    let e = ap is_err (err_from_is_err_and c.from-residual.result c.from-residual.ensures.1).1 in
+pub returns-in_err-clip-in-Lists : goal.returns-in_err-clip-in-Lists
+returns-in_err-clip-in-Lists t c =
+    let both = lists t (goal.at.returns-in_err-clip-in-Lists t c).In-Lists in
+    let e = ap is_err (err_from_is_err_and c.from_residual.result c.from_residual.ensures.1).1 in
     record {
-      refuses = e ∙ c.in_err-clip.ensures.refuses ∙ item_void c.args.sheet.now c.args.place c.args.goal c.requires.here c.type_record-here.result c.type_record-here.ensures both;
-      adds = IfOk-from_err c.from-residual.result (λ _. Added (clip_at c.args.sheet.now c.args.place c.args.goal) (type_at_place c.args.sheet.now c.args.place) (type_tree c.args.sheet.now c.args.place) c.args.progress.now c.args.table.now c.clip.new.progress c.clip.new.table) e;
+      refuses = e ∙ c.in_err-clip-in-Lists.ensures.refuses ∙ item_void c.args.sheet.now c.args.place c.args.goal c.requires.here c.type_record-here.result c.type_record-here.ensures both;
+      adds = IfOk-from_err c.from_residual.result (λ _. Added (clip_at c.args.sheet.now c.args.place c.args.goal) (type_at_place c.args.sheet.now c.args.place) (type_tree c.args.sheet.now c.args.place) c.args.progress.now c.args.table.now c.clip.new.progress c.clip.new.table) e;
     }
 
 pub overflow_sub-progress : goal.overflow_sub-progress
-overflow_sub-progress t c = omega (arith, c.in_ok-clip.ensures.adds.written)
+overflow_sub-progress t c = omega (arith, c.in_ok-clip-in-Lists.ensures.adds.written)
 
 pub headed-requires : goal.headed-requires
 headed-requires t c =
     let s = c.args.sheet.now in
     let both = lists t (goal.at.headed-requires t c).In-Lists in
     let long = item_size s c.args.place c.args.goal c.requires.here c.type_record-here.result c.type_record-here.ensures both in
-    omega (arith, c.in_ok-clip.ensures.adds.written, kept_small (clip_at s (c.args.place + 1) (c.args.goal + 1)) (type_tree s (c.args.place + 1)), long, c.requires.space)
+    omega (arith, c.in_ok-clip-in-Lists.ensures.adds.written, kept_small (clip_at s (c.args.place + 1) (c.args.goal + 1)) (type_tree s (c.args.place + 1)), long, c.requires.space)
 
 pub bounds-table-head : goal.bounds-table-head
 bounds-table-head t c = omega (arith, c.requires.space, tree_some (type_tree c.args.sheet.now c.args.place))
@@ -92,18 +92,18 @@ clip-requires-in-Some t c =
     let span = ap (λ (r : TypeRecord). r.span) c.type_record-field.ensures in
     (omega (arith, c.decreases, span, x.here.inside, c.loop-k.invariant.at.behind), (x.here.there, (c.in-Some.ensures.inside, (x.room, (omega (arith, x.low, c.requires.low), x.space)))))
 
-pub returns-in_err-clip-2 : goal.returns-in_err-clip-2
-returns-in_err-clip-2 t c =
-    let e = ap is_err (err_from_is_err_and c.from-residual-in_err-clip-2.result c.from-residual-in_err-clip-2.ensures.1).1 in
+pub returns-in_err-clip-in-Some : goal.returns-in_err-clip-in-Some
+returns-in_err-clip-in-Some t c =
+    let e = ap is_err (err_from_is_err_and c.from_residual-in_err-clip-in-Some.result c.from_residual-in_err-clip-in-Some.ensures.1).1 in
     record {
-      refuses = e ∙ (turn t (goal.at.returns-in_err-clip-2 t c).In-loop-k c.type_record-field.result c.type_record-field.ensures).void c.in-Some.wanted c.in-Some.ensures.found c.in_err-clip-2.ensures.refuses;
-      adds = IfOk-from_err c.from-residual-in_err-clip-2.result (λ _. Added (clip_at c.args.sheet.now c.args.place c.args.goal) (type_at_place c.args.sheet.now c.args.place) (type_tree c.args.sheet.now c.args.place) c.args.progress.now c.args.table.now c.clip_in-Some.new.progress c.clip_in-Some.new.table) e;
+      refuses = e ∙ (turn t (goal.at.returns-in_err-clip-in-Some t c).In-loop-k c.type_record-field.result c.type_record-field.ensures).void c.in-Some.wanted c.in-Some.ensures.found c.in_err-clip-in-Some.ensures.refuses;
+      adds = IfOk-from_err c.from_residual-in_err-clip-in-Some.result (λ _. Added (clip_at c.args.sheet.now c.args.place c.args.goal) (type_at_place c.args.sheet.now c.args.place) (type_tree c.args.sheet.now c.args.place) c.args.progress.now c.args.table.now c.clip-in-Some.new.progress c.clip-in-Some.new.table) e;
     }
 
 pub returns-then-progress-before : goal.returns-then-progress-before
 returns-then-progress-before t c =
     record {
-      refuses = (turn t (goal.at.returns-then-progress-before t c).In-loop-k c.type_record-field.result c.type_record-field.ensures).none c.in-Some.wanted c.in-Some.ensures.found c.clip_in-Some.new.progress c.clip_in-Some.new.table c.in_ok-clip-2.ensures.adds c.if-progress-before.true;
+      refuses = (turn t (goal.at.returns-then-progress-before t c).In-loop-k c.type_record-field.result c.type_record-field.ensures).none c.in-Some.wanted c.in-Some.ensures.found c.clip-in-Some.new.progress c.clip-in-Some.new.table c.in_ok-clip-in-Some.ensures.adds c.if-progress-before.true;
       adds = tt;
     }
 
@@ -123,9 +123,9 @@ loop-k-preserved t c =
     elim c.match-find_field.branch [
       | in-None w ↦
           subst then (λ i. (sym w.progress-is i, (sym w.table-is i, sym w.children-is i))) (x.past w.in-None.ensures.found w.count_leaves.result w.count_leaves.ensures)
-      | in-Some+in_ok-clip-2+else-progress-before w ↦
-          let did = w.in_ok-clip-2.ensures in
-          subst then (λ i. (sym w.progress-is i, (sym w.table-is i, sym w.children-is i))) (x.kept w.in-Some.wanted w.in-Some.ensures.found w.clip_in-Some.new.progress w.clip_in-Some.new.table did.adds did.refuses w.if-progress-before.false)
+      | in-Some+in_ok-clip-in-Some+else-progress-before w ↦
+          let did = w.in_ok-clip-in-Some.ensures in
+          subst then (λ i. (sym w.progress-is i, (sym w.table-is i, sym w.children-is i))) (x.kept w.in-Some.wanted w.in-Some.ensures.found w.clip-in-Some.new.progress w.clip-in-Some.new.table did.adds did.refuses w.if-progress-before.false)
     ]
 
 pub overflow_sub-progress-in-Structs : goal.overflow_sub-progress-in-Structs
@@ -146,11 +146,11 @@ returns-in-Others t c =
     let both = are_others s c.args.place c.args.goal c.requires.here c.requires.there c.type_record-here.result c.type_record.result c.type_record-here.ensures c.type_record.ensures c.in-Others.ensures in
     record { refuses = others_sound s c.args.place c.args.goal both; adds = others_added s c.args.place c.args.goal both _ _ _ _ c.keep_entire.ensures }
 
-pub returns-in_ok-clip : goal.returns-in_ok-clip
-returns-in_ok-clip t c =
+pub returns-in_ok-clip-in-Lists : goal.returns-in_ok-clip-in-Lists
+returns-in_ok-clip-in-Lists t c =
     let s = c.args.sheet.now in
-    let both = lists t (goal.at.returns-in_ok-clip t c).In-Lists in
-    let did = c.in_ok-clip.ensures in
+    let both = lists t (goal.at.returns-in_ok-clip-in-Lists t c).In-Lists in
+    let did = c.in_ok-clip-in-Lists.ensures in
     let low : c.args.progress.now.written < 2048 = omega (arith, c.requires.space, tree_some (type_tree s c.args.place)) in
     record {
       refuses = did.refuses ∙ item_void s c.args.place c.args.goal c.requires.here c.type_record-here.result c.type_record-here.ensures both;

@@ -36,7 +36,5 @@ invariant_of-result c =
     let did = c.in_default.ensures.adds in
     let k = clip_at s c.args.place c.args.goal in
     let few = leaves_fit s c.args.place c.requires.here in
-    let short = tree_fits s c.args.place c.requires.here in (
-      omega (arith, did.kept, kept_fits k 0 (type_at_place s c.args.place)),
-      (omega (arith, did.written, kept_small k (type_tree s c.args.place)), tt),
-    )
+    let short = tree_fits s c.args.place c.requires.here in
+    record { few = omega (arith, did.kept, kept_fits k 0 (type_at_place s c.args.place)); short = omega (arith, did.written, kept_small k (type_tree s c.args.place)) }
