@@ -1,5 +1,5 @@
 -- What a checker has found, and what it comes to. Assumes nothing.
-use Rattle.std.specs.Prelude.{ℕ, Bool, List, map, take, Option}
+use Rattle.std.specs.Prelude.{ℕ, List, map, take, Option}
 use Rattle.rules.specs.Names.{Name}
 use Rattle.rules.specs.Types.{Ty}
 use Rattle.sheet.specs.declared.sheet.Sheet.{Sheet}

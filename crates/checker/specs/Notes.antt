@@ -1,5 +1,5 @@
 -- Findings, taken down one after the other. Assumes nothing.
-use Rattle.std.specs.Prelude.{ℕ, ◌+◌, Bool, true, false, cond, ◌||◌, List, [], ◌∷◌, ◌++◌, set, replicate, Some, None, Option, slice_set}
+use Rattle.std.specs.Prelude.{ℕ, ◌+◌, Bool, true, false, cond, ◌||◌, List, [], ◌∷◌, ◌++◌, replicate, Some, Option, slice_set}
 use Rattle.rules.specs.Names.{Name}
 use Rattle.rules.specs.Types.{Ty}
 use Rattle.rules.specs.Findings.{Finding, required, accessed, through, unknown, unsupported, unpushable}

@@ -24,9 +24,9 @@ fn is_null_check(node: NodeRecord) -> bool
 fn is_array_function(name: &[u8]) -> bool
     ensures { result ≡ is_array_function name.now }
 {
-    let has = name == b"array_has";
-    let has_all = name == b"array_has_all";
-    let has_any = name == b"array_has_any";
+    let has = name == b"array_has".as_slice();
+    let has_all = name == b"array_has_all".as_slice();
+    let has_any = name == b"array_has_any".as_slice();
     has || has_all || has_any
 }
 

@@ -6,8 +6,8 @@ use Rattle.checker.proofs.root_set.RootSet.sorted.Goals.{then-flag, else-flag}
 pub loop-root-init : goal.loop-root-init
 loop-root-init c = record { behind = omega arith; sized = refl; low = λ k h. absurd (omega arith); all = refl }
 
-pub offset-bounds-roots-count : goal.offset-bounds-roots-count
-offset-bounds-roots-count c = omega arith
+pub offset_bounds-roots-count : goal.offset_bounds-roots-count
+offset_bounds-roots-count c = omega arith
 
 pub bounds-roots-count : goal.bounds-roots-count
 bounds-roots-count c = omega arith
@@ -27,7 +27,7 @@ loop-root-preserved c =
     ]
 
 pub invariant_of-result : goal.invariant_of-result
-invariant_of-result c = let l = c.loop-root in (l.invariant.sized, (omega arith, (l.invariant.low, tt)))
+invariant_of-result c = let l = c.loop-root in record { sized = l.invariant.sized; within = omega arith; low = l.invariant.low }
 
 pub returns : goal.returns
 returns c =
