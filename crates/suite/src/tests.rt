@@ -100,8 +100,8 @@ fn directories(rt: HostRuntime) -> Result<(), Fail> {
     asks(&rt, &listed, b"leg");
     let flattened = FlattenedDirectory::new(&sheet);
     asks(&rt, &flattened, b"legs");
-    assert_eq!(rt; flattened.part(1, 1), Some(b"bid".as_slice()));
-    assert_eq!(rt; listed.part(0, 1), None);
+    assert!(rt; flattened.part(1, 1) == Some(b"bid".as_slice()));
+    assert!(rt; listed.part(0, 1) == None);
     Ok(())
 }
 
