@@ -14,17 +14,17 @@ use Rattle.sheet.specs.SheetTrees.{type_tree, root_trees}
 use Rattle.sheet.proofs.Sheets.{few_types, root_place, type_size, type_within, type_records}
 use Rattle.planner.specs.RootPlans.{listed_fields, field_records, all_records}
 
-abbrev blank_tree : Tree TypeRecord
+abbrev pub blank_tree : Tree TypeRecord
 blank_tree = node no_type none
 
 module _ (s : Sheet) where
-  abbrev place_of : ℕ → ℕ
+  abbrev pub place_of : ℕ → ℕ
   place_of r = (get_or (roots_in s) r no_root).type_place
 
   pub tree_count : length (root_trees s) ≡ length (roots_in s)
   tree_count = length-map (roots_in s) (λ (r : RootRecord). type_tree s r.type_place)
 
-  tree_at_lem : (r : ℕ) → r < length (roots_in s) → get_or (root_trees s) r blank_tree ≡ type_tree s (place_of r)
+  pub tree_at_lem : (r : ℕ) → r < length (roots_in s) → get_or (root_trees s) r blank_tree ≡ type_tree s (place_of r)
   tree_at_lem r h = get_or-map (λ (x : RootRecord). type_tree s x.type_place) (roots_in s) r no_root blank_tree h
 
   -- what the roots from r on have
@@ -34,7 +34,7 @@ module _ (s : Sheet) where
   rest_step : (r : ℕ) → r < length (roots_in s) → rest_records r ≡ preorder (type_tree s (place_of r)) ++ rest_records (r + 1)
   rest_step r h = at_drop_more field_records (root_trees s) r blank_tree (omega (arith, tree_count)) ∙ ap (λ t. preorder t ++ rest_records (r + 1)) (tree_at_lem r h)
 
-  rest_length : (r : ℕ) → r < length (roots_in s) → length (rest_records r) ≡ size (type_tree s (place_of r)) + length (rest_records (r + 1))
+  pub rest_length : (r : ℕ) → r < length (roots_in s) → length (rest_records r) ≡ size (type_tree s (place_of r)) + length (rest_records (r + 1))
   rest_length r h = ap length (rest_step r h) ∙ length-append (preorder (type_tree s (place_of r))) (rest_records (r + 1)) ∙ ap (λ n. n + length (rest_records (r + 1))) (length-preorder (type_tree s (place_of r)))
 
   rest_none : (r : ℕ) → length (roots_in s) ≤ r → rest_records r ≡ []

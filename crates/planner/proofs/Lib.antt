@@ -1,6 +1,13 @@
+pub mod AccessPaths
+pub mod Along
 pub mod Chosen
 pub mod Copied
 pub mod Listing
+pub mod Narrowing
 pub mod Padding
 pub mod Planned
+pub mod Planning
+pub mod Prefixes
+pub mod Runs
 pub mod Schemas
+pub mod Targeting

@@ -1,1 +1,5 @@
+pub mod ReadPlans
+pub mod Readings
 pub mod RootPlans
+pub mod Segments
+pub mod Targets

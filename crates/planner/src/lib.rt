@@ -2,6 +2,8 @@
 #![tactic(auto)]
 
 mod buffers;
+mod leaves;
 mod projection_read_plan;
+mod readings;
 
 pub use projection_read_plan::{Plan, field_room, root_level_plan, schema_is_of_the_file};

@@ -43,7 +43,7 @@ impl Plan {
     }
 }
 
-fn is_listed(roots: &[usize], root: usize) -> bool
+pub(crate) fn is_listed(roots: &[usize], root: usize) -> bool
     ensures { result ≡ is_listed roots.now root }
 {
     for listed in roots {
