@@ -1,4 +1,4 @@
-use Rattle.std.proofs.Common.{sym, ◌∙◌}
+use Rattle.std.proofs.Common.{arith}
 use lib.ListN.{length-map}
 use Rattle.sheet.specs.Seen.{leaves_in}
 use Rattle.directory.specs.Listed.{listed_leaf}
@@ -7,4 +7,4 @@ use Rattle.directory.proofs.listed.ListedDirectoryLeafDirectory.count.Goals as g
 pub returns : goal.returns
 returns c =
     let s = c.args.self.now.sheet.now in
-    c.leaf_count.ensures ∙ sym (length-map (leaves_in s) (listed_leaf s))
+    omega (arith, length-map (leaves_in s) (listed_leaf s))
