@@ -1,5 +1,6 @@
 pub mod AccessPaths
 pub mod Along
+pub mod Bridging
 pub mod Chosen
 pub mod Copied
 pub mod Listing

@@ -1,6 +1,7 @@
 //! Plans which leaf columns of a file are read.
 #![tactic(auto)]
 
+mod assemble;
 mod buffers;
 mod leaves;
 mod projection_read_plan;

@@ -18,9 +18,9 @@ use sheet::{Fault, Sheet, TypeRecord};
 /// front of the two buffers that the plan was written to.
 #[derive(Drop)]
 pub struct Plan {
-    leaves: usize,
-    fields: usize,
-    types: usize,
+    pub(crate) leaves: usize,
+    pub(crate) fields: usize,
+    pub(crate) types: usize,
 }
 
 impl Plan {

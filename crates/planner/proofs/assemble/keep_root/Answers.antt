@@ -1,4 +1,4 @@
-use Rattle.std.proofs.Common.{◌≡◌, ◌++◌, take, sym, ap, ◌∙◌, arith}
+use Rattle.std.proofs.Common.{◌++◌, take, sym, ap, ◌∙◌, arith}
 use Rattle.sheet.specs.SheetTrees.{type_tree}
 use Rattle.sheet.proofs.KeptTrees.{kept_small}
 use Rattle.access.specs.Accesses.{pruned_at}

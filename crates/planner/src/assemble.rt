@@ -1,16 +1,13 @@
 //! The plan of some uses, written root by root. Ported from `assemble_read_plan` and `build_read_plan_with_cast_clipping` of
 //! `src/projection_read_plan.rs` of the crate datafusion-datasource-parquet 55.0.0, changed: the roots are gone through once,
 //! in order, so that leaves and fields come out sorted.
-ghost use Rattle.std.specs.Prelude.{◌≡◌, ◌+◌, ◌-◌, ◌^◌, ◌<◌, ◌≤◌, ◌++◌, length, take};
-ghost use Rattle.rules.specs.ReadPlan.{read_leaves, read_keep};
+ghost use Rattle.std.specs.Prelude.{◌≡◌, ◌+◌, ◌<◌, ◌≤◌, ◌++◌, length, take};
 ghost use Rattle.rules.specs.Trees.{size};
 ghost use Rattle.sheet.specs.Seen.{types_in};
-ghost use Rattle.sheet.specs.SheetExpressions.{type_at_place};
 ghost use Rattle.sheet.specs.SheetTrees.{type_tree};
 ghost use Rattle.planner.specs.ReadPlans.{Written, written_by, uses_reading};
 ghost use Rattle.planner.specs.Readings.{ClipFits, ClipShort, chosen_by, fields_by, kept_by, paths_on};
 ghost use Rattle.planner.specs.RootPlans.{all_records};
-ghost use Rattle.planner.specs.Segments.{segment};
 
 use crate::buffers::blank_from;
 use crate::leaves::{choose_all, choose_along, choose_kept, leaves_end};
@@ -125,29 +122,26 @@ pub fn build_read_plan<D: LeafDirectory>(
     requires few { length uses.now.accesses.now ≤ 256 }
     ensures { ◌≡◌ {A = Written} (result, (leaves.new, fields.new)) (written_by sheet.now (D.LeafDirectory.leaves directory.now) (uses_reading sheet.now (D.LeafDirectory.leaves directory.now) uses.now) leaves.old fields.old) }
 {
-    let mut plan = Plan::EMPTY;
+    let mut chosen = 0;
+    let mut count = 0;
+    let mut types = 0;
     let mut first = 0;
     for root in 0..sheet.root_count() {
         let place = sheet.root_record(root).type_place as usize;
         let end = leaves_end(directory, root, first);
         let reading = read_root(sheet, place, root, uses, end - first, table);
-        plan.leaves = choose_root(
-            sheet,
-            directory,
-            root,
-            uses,
-            reading,
-            table,
-            first,
-            end,
-            leaves,
-            plan.leaves,
+        chosen = choose_root(
+            sheet, directory, root, uses, reading, table, first, end, leaves, chosen,
         );
-        plan.types = keep_root(sheet, place, root, uses, reading, table, fields, plan.types);
-        plan.fields += field_count(reading);
+        types = keep_root(sheet, place, root, uses, reading, table, fields, types);
+        count += field_count(reading);
         first = end;
     }
-    blank_from(leaves, plan.leaves, 0);
-    blank_from(fields, plan.types, TypeRecord::BLANK);
-    plan
+    blank_from(leaves, chosen, 0);
+    blank_from(fields, types, TypeRecord::BLANK);
+    Plan {
+        leaves: chosen,
+        fields: count,
+        types,
+    }
 }
