@@ -8,7 +8,7 @@ use Rattle.std.proofs.lemmas.Bool.Decides.{same_from_decides}
 use Rattle.std.specs.Str.{bytes_eq}
 use Rattle.rules.specs.Keeping.{ends_here, onward}
 use Rattle.rules.specs.Names.{Name}
-use Rattle.rules.specs.ReadPlan.{on, is_none}
+use Rattle.rules.specs.ReadPlan.{on, is_empty}
 use Rattle.format.specs.Records.{no_node}
 use Rattle.sheet.specs.declared.sheet.Sheet.{Sheet}
 use Rattle.sheet.specs.Seen.{nodes_in}
@@ -98,14 +98,14 @@ module _ (s : Sheet) where
       abbrev pub Unfound : ℕ → Type 0
       Unfound i = rest i ≡ rest 0
 
-      pub found : (i : ℕ) → i < length xs → true ≡ is_on (get_or xs i blank) → Unfound i → true ≡ not (is_none (rest 0))
-      found i h e inv = ap (λ w. not (is_none w)) (sym (split i true h e) ∙ inv)
+      pub found : (i : ℕ) → i < length xs → true ≡ is_on (get_or xs i blank) → Unfound i → true ≡ not (is_empty (rest 0))
+      found i h e inv = ap (λ w. not (is_empty w)) (sym (split i true h e) ∙ inv)
 
       pub not_here : (i : ℕ) → i < length xs → false ≡ is_on (get_or xs i blank) → Unfound i → Unfound (i + 1)
       not_here i h e inv = sym (split i false h e) ∙ inv
 
-      pub nowhere : (i : ℕ) → length xs ≤ i → Unfound i → false ≡ not (is_none (rest 0))
-      nowhere i h inv = ap (λ w. not (is_none w)) (sym (rest_none i h) ∙ inv)
+      pub nowhere : (i : ℕ) → length xs ≤ i → Unfound i → false ≡ not (is_empty (rest 0))
+      nowhere i h inv = ap (λ w. not (is_empty w)) (sym (rest_none i h) ∙ inv)
 
   module _ (depth : ℕ) (xs : List StructFieldAccess) where
     -- WHERE A PATH ENDS

@@ -167,9 +167,9 @@ module _ (s : Sheet) (ps : List (List Name)) (p : ℕ) where
         pub goes_on : (depth : ℕ) (xs ys : List StructFieldAccess) (name : Name) (c : TypeRecord) → xs ≡ ys → left s (depth + 1) ys ≡ onward name ps → name ≡ name_bytes (names_in s) c.name → c ≡ type_record_at s child → left s (depth + 1) xs ≡ onward (name_at s child) ps
         goes_on depth xs ys name c e f g h = ap (left s (depth + 1)) e ∙ f ∙ ap (λ m. onward m ps) (g ∙ ap (λ (q : TypeRecord). name_bytes (names_in s) q.name) h)
 
-        module _ (depth : ℕ) (c : TypeRecord) (at-child : c ≡ type_record_at s child) where
+        module _ (depth : ℕ) (c : TypeRecord) (at_child : c ≡ type_record_at s child) where
           spans : c.span ≡ type_span s child
-          spans = ap (λ (x : TypeRecord). x.span) at-child
+          spans = ap (λ (x : TypeRecord). x.span) at_child
 
           abbrev later : Forest TypeRecord
           later = kept_row behind (child + type_span s child)

@@ -1,6 +1,6 @@
 //! The accesses that go on at a level of a type: those whose first parts, up to a depth, led there.
 ghost use Rattle.std.specs.Prelude.{◌≡◌, ◌+◌, ◌<◌, ◌≤◌, [], ◌∷◌, ◌++◌, length, take};
-ghost use Rattle.rules.specs.Keeping.{ends_here, onward as goingOn};
+ghost use Rattle.rules.specs.Keeping.{ends_here, onward as going_on};
 ghost use Rattle.rules.specs.ReadPlan.{on};
 ghost use Rattle.sheet.specs.declared.sheet.Sheet.{Sheet};
 ghost use Rattle.access.specs.Accesses.{accesses_in};
@@ -94,7 +94,7 @@ pub(crate) fn onward(
     paths: &mut Paths,
 )
     requires { length accesses.now ≤ 256 }
-    ensures { left sheet.now (depth + 1) (take paths.new.count paths.new.accesses) ≡ goingOn name.now (left sheet.now depth accesses.now) }
+    ensures { left sheet.now (depth + 1) (take paths.new.count paths.new.accesses) ≡ going_on name.now (left sheet.now depth accesses.now) }
 {
     paths.clear();
     for access in accesses {

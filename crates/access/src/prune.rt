@@ -3,7 +3,7 @@
 //! place of a tree of accesses each level has the list of those that go on there.
 ghost use Rattle.std.specs.Prelude.{◌≡◌, ◌+◌, ◌<◌, ◌≤◌, not, ◌++◌, length, take};
 ghost use Rattle.rules.specs.Keeping.{pruned};
-ghost use Rattle.rules.specs.ReadPlan.{on, is_none};
+ghost use Rattle.rules.specs.ReadPlan.{on, is_empty};
 ghost use Rattle.rules.specs.Trees.{preorder, size};
 ghost use Rattle.sheet.specs.KeptTrees.{kept_tree};
 ghost use Rattle.sheet.specs.Seen.{types_in};
@@ -35,7 +35,7 @@ pub fn copy_type(sheet: &Sheet, place: usize, fields: &mut [TypeRecord], at: usi
 
 /// Whether some access that is in the sheet is on a root.
 pub fn has_access(sheet: &Sheet, root: usize, accesses: &[StructFieldAccess]) -> bool
-    ensures { result ≡ not (is_none (on root (accesses_in sheet.now accesses.now))) }
+    ensures { result ≡ not (is_empty (on root (accesses_in sheet.now accesses.now))) }
 {
     for access in accesses {
         if access.is_on(sheet, root) {

@@ -22,8 +22,8 @@ module _ (cs : List CastColumnAccess) (as' : List StructFieldAccess) where
       let short = length-take-le n table long in
       sym (cond-false (ltb (length (take n table)) 64) _ _ (le-ltb _ _ (omega (arith, short))))
 
--- Casts or accesses, into a table with a limit; `as-held` says what is held with them.
-module _ {A : Type 0} (limit : ℕ) (as-held : List A → Held) (table after xs : List A) (n e : ℕ) (b : Bool) (low : n ≤ length table) (long : length table ≡ limit) (fits : b ≡ leb (n + length xs) (length table))
+-- Casts or accesses, into a table with a limit; `as_held` says what is held with them.
+module _ {A : Type 0} (limit : ℕ) (as_held : List A → Held) (table after xs : List A) (n e : ℕ) (b : Bool) (low : n ≤ length table) (long : length table ≡ limit) (fits : b ≡ leb (n + length xs) (length table))
     (written : take (cond b (n + length xs) n) after ≡ cond b (take n table ++ xs) (take n table)) where
   test : leb (length (take n table) + length xs) limit ≡ b
   test = (λ k. leb (length-take-le n table low k + length xs) (sym long k)) ∙ sym fits
@@ -31,8 +31,8 @@ module _ {A : Type 0} (limit : ℕ) (as-held : List A → Held) (table after xs 
   by : {c : Bool} → b ≡ c → take (cond c (n + length xs) n) after ≡ cond c (take n table ++ xs) (take n table)
   by t = ap (λ z. take (cond z (n + length xs) n) after) (sym t) ∙ written ∙ ap (λ z. cond z (take n table ++ xs) (take n table)) t
 
-  pub several_more : b ≡ true → ◌≡◌ {A = Pushed} (Ok tt, as-held (take (n + length xs) after)) (cond (leb (length (take n table) + length xs) limit) (Ok tt, as-held (take n table ++ xs)) (Err (TablesFull e), as-held (take n table)))
-  several_more t = (λ k. (Ok tt, as-held (by t k))) ∙ sym (cond-true (leb (length (take n table) + length xs) limit) (Ok tt, as-held (take n table ++ xs)) (Err (TablesFull e), as-held (take n table)) (test ∙ t))
+  pub several_more : b ≡ true → ◌≡◌ {A = Pushed} (Ok tt, as_held (take (n + length xs) after)) (cond (leb (length (take n table) + length xs) limit) (Ok tt, as_held (take n table ++ xs)) (Err (TablesFull e), as_held (take n table)))
+  several_more t = (λ k. (Ok tt, as_held (by t k))) ∙ sym (cond-true (leb (length (take n table) + length xs) limit) (Ok tt, as_held (take n table ++ xs)) (Err (TablesFull e), as_held (take n table)) (test ∙ t))
 
-  pub none_more : b ≡ false → ◌≡◌ {A = Pushed} (Err (TablesFull e), as-held (take n after)) (cond (leb (length (take n table) + length xs) limit) (Ok tt, as-held (take n table ++ xs)) (Err (TablesFull e), as-held (take n table)))
-  none_more t = (λ k. (Err (TablesFull e), as-held (by t k))) ∙ sym (cond-false (leb (length (take n table) + length xs) limit) (Ok tt, as-held (take n table ++ xs)) (Err (TablesFull e), as-held (take n table)) (test ∙ t))
+  pub none_more : b ≡ false → ◌≡◌ {A = Pushed} (Err (TablesFull e), as_held (take n after)) (cond (leb (length (take n table) + length xs) limit) (Ok tt, as_held (take n table ++ xs)) (Err (TablesFull e), as_held (take n table)))
+  none_more t = (λ k. (Err (TablesFull e), as_held (by t k))) ∙ sym (cond-false (leb (length (take n table) + length xs) limit) (Ok tt, as_held (take n table ++ xs)) (Err (TablesFull e), as_held (take n table)) (test ∙ t))

@@ -15,21 +15,21 @@ use Rattle.nested.specs.ClipSteps.{Added}
 use Rattle.nested.proofs.KeptLeaves.{kept_fits, kept_alike}
 
 -- The fields in all, with what is kept of them and their trees; and the state where they begin.
-module _ (fs : Fields) (all-kept : Keeps) (rs : Forest TypeRecord) (was : Progress) (before : ClipTable) where
+module _ (fs : Fields) (all_kept : Keeps) (rs : Forest TypeRecord) (was : Progress) (before : ClipTable) where
   -- what is added, and then what the fields that are left give, is the whole
   pub record Going (f : Fields) (ks : Keeps) (r : Forest TypeRecord) (is : Progress) (table : ClipTable) (children : ℕ) : Type 0 where
     pub passed : is.leaf + leaf_count_in f ≡ was.leaf + leaf_count_in fs
-    pub kept : is.kept + length (kept_leaves_in ks is.leaf f) ≡ was.kept + length (kept_leaves_in all-kept was.leaf fs)
-    pub offsets : take is.kept table.offsets ++ kept_leaves_in ks is.leaf f ≡ take was.kept before.offsets ++ kept_leaves_in all-kept was.leaf fs
-    pub voids : are_void ks f ≡ are_void all-kept fs
-    pub written : is.written + sizes (kept_forest ks r) ≡ was.written + sizes (kept_forest all-kept rs)
-    pub types : take is.written table.types ++ preorders (kept_forest ks r) ≡ take was.written before.types ++ preorders (kept_forest all-kept rs)
-    pub counted : children + count (kept_forest ks r) ≡ count (kept_forest all-kept rs)
+    pub kept : is.kept + length (kept_leaves_in ks is.leaf f) ≡ was.kept + length (kept_leaves_in all_kept was.leaf fs)
+    pub offsets : take is.kept table.offsets ++ kept_leaves_in ks is.leaf f ≡ take was.kept before.offsets ++ kept_leaves_in all_kept was.leaf fs
+    pub voids : are_void ks f ≡ are_void all_kept fs
+    pub written : is.written + sizes (kept_forest ks r) ≡ was.written + sizes (kept_forest all_kept rs)
+    pub types : take is.written table.types ++ preorders (kept_forest ks r) ≡ take was.written before.types ++ preorders (kept_forest all_kept rs)
+    pub counted : children + count (kept_forest ks r) ≡ count (kept_forest all_kept rs)
     pub room : is.kept + leaf_count_in f ≤ 2048
     pub space : is.written + sizes r ≤ 2048
     pub few : children < is.written
 
-  pub going_starts : was.kept + leaf_count_in fs ≤ 2048 → was.written + sizes rs ≤ 2048 → 0 < was.written → Going fs all-kept rs was before 0
+  pub going_starts : was.kept + leaf_count_in fs ≤ 2048 → was.written + sizes rs ≤ 2048 → 0 < was.written → Going fs all_kept rs was before 0
   going_starts room space some =
       record { passed = refl; kept = refl; offsets = refl; voids = refl; written = refl; types = refl; counted = omega arith; room = room; space = space; few = some }
 
@@ -54,7 +54,7 @@ module _ (fs : Fields) (all-kept : Keeps) (rs : Forest TypeRecord) (was : Progre
 
     module _ (k : Keep) (i : Going (field name b t f) (with k ks) (more tree r) is table children) where
       -- a kept field is void, or keeps no leaf
-      pub void_within : true ≡ is_void k t → true ≡ are_void all-kept fs
+      pub void_within : true ≡ is_void k t → true ≡ are_void all_kept fs
       void_within v = (λ j. sym (or_true (eqb (length (kept_leaves k 0 t)) 0)) j || are_void ks f) ∙ ap (λ w. (eqb (length (kept_leaves k 0 t)) 0 || w) || are_void ks f) v ∙ i.voids
         where
           or_true : (x : Bool) → (x || true) ≡ true
@@ -62,7 +62,7 @@ module _ (fs : Fields) (all-kept : Keeps) (rs : Forest TypeRecord) (was : Progre
           or_true false = refl
 
       module _ (on : Progress) (after : ClipTable) (added : Added k t tree is table on after) where
-        pub void_here : on.kept ≡ is.kept → true ≡ are_void all-kept fs
+        pub void_here : on.kept ≡ is.kept → true ≡ are_void all_kept fs
         void_here same =
             let no : length (kept_leaves k 0 t) ≡ 0 = omega (arith, kept_alike k 0 is.leaf t, added.kept) in
             ap (λ w. (w || is_void k t) || are_void ks f) (sym (eq-eqb (length (kept_leaves k 0 t)) 0 no)) ∙ i.voids
@@ -86,13 +86,13 @@ module _ (fs : Fields) (all-kept : Keeps) (rs : Forest TypeRecord) (was : Progre
 
   -- the fields are at an end
   module _ (is : Progress) (table : ClipTable) (children : ℕ) (i : Going empty end none is table children) where
-    pub not_void : false ≡ are_void all-kept fs
+    pub not_void : false ≡ are_void all_kept fs
     not_void = i.voids
 
-    pub all_written : is.written ≡ was.written + sizes (kept_forest all-kept rs)
+    pub all_written : is.written ≡ was.written + sizes (kept_forest all_kept rs)
     all_written = omega (arith, i.written)
 
-    pub all_counted : children ≡ count (kept_forest all-kept rs)
+    pub all_counted : children ≡ count (kept_forest all_kept rs)
     all_counted = omega (arith, i.counted)
 
 -- The head of a Struct is written last, into the place that was left for it.

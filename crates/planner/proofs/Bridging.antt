@@ -8,7 +8,7 @@ use Rattle.std.specs.List.{range_with_len}
 use Rattle.rules.specs.Keeping.{Keep, all, within, among, Keeps, end, without, with, kept_leaves, kept_leaves_in, is_clipped}
 use Rattle.rules.specs.Leaves.{Leaf, roots, NeverFalls}
 use Rattle.rules.specs.Names.{Name}
-use Rattle.rules.specs.ReadPlan.{Reading, entire, narrowed, is_none, every, leaves_on, numbers, first_number, read_leaves, read_keep, by_casts}
+use Rattle.rules.specs.ReadPlan.{Reading, entire, narrowed, is_empty, every, leaves_on, numbers, first_number, read_leaves, read_keep, by_casts}
 use Rattle.rules.specs.RootPlan.{is_listed, padded}
 use Rattle.rules.specs.Trees.{Tree, preorder, size}
 use Rattle.rules.specs.Types.{Ty, leaf, struct, wrap, Fields, empty, field, leaf_count_of, leaf_count_in, same_type, type_at}
@@ -103,7 +103,7 @@ module _ (s : Sheet) (ls : List Leaf) (r place n : ℕ) (h : r < length (roots_i
   same_choice : (gs : List Ty) (paths : List (List Name)) → by_casts (file_in s) ls r gs paths ≡ by_targets s place n gs paths
   same_choice [] paths = refl
   same_choice (g ∷ gs) paths =
-      λ i. cond (is_none paths && (every (same_type g) gs && (eqb (long i) (leaf_count_of (root_type i)) && is_clipped (root_type i) g))) (narrowed g) entire
+      λ i. cond (is_empty paths && (every (same_type g) gs && (eqb (long i) (leaf_count_of (root_type i)) && is_clipped (root_type i) g))) (narrowed g) entire
 
   -- a root is read as the code tells it
   same_reading : (u : Uses) → reading_of s u r place n ≡ uses_reading s ls u r

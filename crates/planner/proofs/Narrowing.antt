@@ -7,7 +7,7 @@ use Rattle.std.specs.Str.{bytes_eq}
 use Rattle.std.specs.Option.{option_map}
 use Rattle.rules.specs.Keeping.{kept_leaves, clipped, is_void, is_clipped, clip_count}
 use Rattle.rules.specs.Names.{Name}
-use Rattle.rules.specs.ReadPlan.{unread, entire, along, narrowed, by_paths, is_none, every}
+use Rattle.rules.specs.ReadPlan.{unread, entire, along, narrowed, by_paths, is_empty, every}
 use Rattle.rules.specs.Trees.{preorder}
 use Rattle.rules.specs.Types.{Ty, leaf, struct, wrap, Fields, empty, field, leaf_count_of, same_type, same_fields, wrapper_kind, wrapper_detail}
 use Rattle.format.specs.declared.records.TypeRecord.{TypeRecord}
@@ -91,17 +91,17 @@ module _ (s : Sheet) (place n : ℕ) (targets : List Ty) (paths : List (List Nam
       go [] h = refl
       go (x ∷ ts) h = absurd (let z : ◌≡◌ {A = ℕ} 0 1 = cc in omega arith)
 
-  pub unread_is : targets ≡ [] → {r : Bool} → r ≡ not (is_none paths) → r ≡ false → by_targets s place n targets paths ≡ unread
+  pub unread_is : targets ≡ [] → {r : Bool} → r ≡ not (is_empty paths) → r ≡ false → by_targets s place n targets paths ≡ unread
   unread_is e {r} f t = ap (λ ts. by_targets s place n ts paths) e ∙ go paths (sym f ∙ t)
     where
-      go : (ps : List (List Name)) → not (is_none ps) ≡ false → by_paths ps ≡ unread
+      go : (ps : List (List Name)) → not (is_empty ps) ≡ false → by_paths ps ≡ unread
       go [] h = refl
       go (p ∷ ps) h = absurd (let z : ◌≡◌ {A = ℕ} 1 0 = ap (λ w. cond w 1 0) h in omega arith)
 
-  pub along_is : targets ≡ [] → {r : Bool} → r ≡ not (is_none paths) → r ≡ true → by_targets s place n targets paths ≡ along paths
+  pub along_is : targets ≡ [] → {r : Bool} → r ≡ not (is_empty paths) → r ≡ true → by_targets s place n targets paths ≡ along paths
   along_is e {r} f t = ap (λ ts. by_targets s place n ts paths) e ∙ go paths (sym f ∙ t)
     where
-      go : (ps : List (List Name)) → not (is_none ps) ≡ true → by_paths ps ≡ along ps
+      go : (ps : List (List Name)) → not (is_empty ps) ≡ true → by_paths ps ≡ along ps
       go [] h = absurd (let z : ◌≡◌ {A = ℕ} 0 1 = ap (λ w. cond w 1 0) h in omega arith)
       go (p ∷ ps) h = refl
 
@@ -110,17 +110,17 @@ module _ (s : Sheet) (place n : ℕ) (targets : List Ty) (paths : List (List Nam
     g = type_at_place s goal
 
     abbrev tests : Bool
-    tests = is_none paths && (every (same_type g) targets && eqb n (leaf_count_of (type_at_place s place)))
+    tests = is_empty paths && (every (same_type g) targets && eqb n (leaf_count_of (type_at_place s place)))
 
     -- what is told by the tests and by the clip, together
-    by_first : (ts : List Ty) → Some g ≡ first_of ts → by_targets s place n ts paths ≡ cond ((is_none paths && (every (same_type g) ts && eqb n (leaf_count_of (type_at_place s place)))) && is_clipped (type_at_place s place) g) (narrowed g) entire
+    by_first : (ts : List Ty) → Some g ≡ first_of ts → by_targets s place n ts paths ≡ cond ((is_empty paths && (every (same_type g) ts && eqb n (leaf_count_of (type_at_place s place)))) && is_clipped (type_at_place s place) g) (narrowed g) entire
     by_first [] h = absurd (let z : ◌≡◌ {A = ℕ} 0 1 = cc in omega arith)
     by_first (x ∷ ts) h =
         let is : x ≡ g = cc in
         ap (λ y. by_targets s place n (y ∷ ts) paths) is
-        ∙ ap (λ z. cond z (narrowed g) entire) (regroup (is_none paths) (every (same_type g) ts) (eqb n (leaf_count_of (type_at_place s place))) (is_clipped (type_at_place s place) g))
-        ∙ ap (λ z. cond ((is_none paths && ((z && every (same_type g) ts) && eqb n (leaf_count_of (type_at_place s place)))) && is_clipped (type_at_place s place) g) (narrowed g) entire) (sym (same_self g))
-        ∙ ap (λ y. cond ((is_none paths && ((same_type g y && every (same_type g) ts) && eqb n (leaf_count_of (type_at_place s place)))) && is_clipped (type_at_place s place) g) (narrowed g) entire) (sym is)
+        ∙ ap (λ z. cond z (narrowed g) entire) (regroup (is_empty paths) (every (same_type g) ts) (eqb n (leaf_count_of (type_at_place s place))) (is_clipped (type_at_place s place) g))
+        ∙ ap (λ z. cond ((is_empty paths && ((z && every (same_type g) ts) && eqb n (leaf_count_of (type_at_place s place)))) && is_clipped (type_at_place s place) g) (narrowed g) entire) (sym (same_self g))
+        ∙ ap (λ y. cond ((is_empty paths && ((same_type g y && every (same_type g) ts) && eqb n (leaf_count_of (type_at_place s place)))) && is_clipped (type_at_place s place) g) (narrowed g) entire) (sym is)
       where
         regroup : (a b c d : Bool) → (a && (b && (c && d))) ≡ ((a && ((true && b) && c)) && d)
         regroup true true true d = refl
@@ -152,7 +152,7 @@ module _ (s : Sheet) (place n : ℕ) (targets : List Ty) (paths : List (List Nam
         let like = every (same_type g) targets in
         let some-kept = ltb 0 (clip_count (type_at_place s place) g) in
         let less-kept = ltb (clip_count (type_at_place s place) g) (leaf_count_of (type_at_place s place)) in
-        let same : n ≡ leaf_count_of (type_at_place s place) = eqb-true n (leaf_count_of (type_at_place s place)) (and_parts like even (and_parts (is_none paths) (like && even) both.0).1).1 in
+        let same : n ≡ leaf_count_of (type_at_place s place) = eqb-true n (leaf_count_of (type_at_place s place)) (and_parts like even (and_parts (is_empty paths) (like && even) both.0).1).1 in
         let less : clip_count (type_at_place s place) g < leaf_count_of (type_at_place s place) = ltb-true (clip_count (type_at_place s place) g) (leaf_count_of (type_at_place s place)) (and_parts some-kept less-kept (and_parts (not (is_void (clipped (type_at_place s place) g) (type_at_place s place))) (some-kept && less-kept) both.1).1).1 in
         let some : shown (Some c) table ≡ Some (kept_leaves (clip_at s place goal) 0 (type_at_place s place), preorder (kept_tree (clip_at s place goal) (type_tree s place))) = stands ∙ ap (λ z. cond z (Some (kept_leaves (clip_at s place goal) 0 (type_at_place s place), preorder (kept_tree (clip_at s place goal) (type_tree s place)))) None) both.1 in
         let kept : take c.leaves table.offsets ≡ kept_leaves (clip_at s place goal) 0 (type_at_place s place) = ap leaves_of some in

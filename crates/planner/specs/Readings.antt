@@ -4,7 +4,7 @@ use Rattle.std.specs.List.{range_with_len}
 use Rattle.rules.specs.Keeping.{is_clipped, pruned}
 use Rattle.rules.specs.Leaves.{Leaf}
 use Rattle.rules.specs.Names.{Name}
-use Rattle.rules.specs.ReadPlan.{Reading, unread, entire, along, narrowed, by_paths, is_none, every, on, numbers_along}
+use Rattle.rules.specs.ReadPlan.{Reading, unread, entire, along, narrowed, by_paths, is_empty, every, on, numbers_along}
 use Rattle.rules.specs.Trees.{preorder}
 use Rattle.rules.specs.RootPlan.{is_listed}
 use Rattle.rules.specs.Types.{Ty, leaf_count_of, same_type}
@@ -30,7 +30,7 @@ paths_on s u root = on root (accesses_in s u.accesses.now)
 -- the casts on a root can be met by one clip, where its directory has n leaves of it
 abbrev pub can_be_narrowed : Sheet → (place n : ℕ) → Ty → List Ty → List (List Name) → Bool
 can_be_narrowed s place n g gs paths =
-    is_none paths && (every (same_type g) gs && (n == leaf_count_of (type_at_place s place) && is_clipped (type_at_place s place) g))
+    is_empty paths && (every (same_type g) gs && (n == leaf_count_of (type_at_place s place) && is_clipped (type_at_place s place) g))
 
 abbrev pub by_targets : Sheet → (place n : ℕ) → List Ty → List (List Name) → Reading
 by_targets s place n [] paths = by_paths paths

@@ -1,6 +1,6 @@
 //! How a root is read.
 ghost use Rattle.std.specs.Prelude.{◌≡◌, ◌<◌, ◌≤◌, not, ◌&&◌, length, if◌then◌else◌, None, nat_eq};
-ghost use Rattle.rules.specs.ReadPlan.{is_none, every};
+ghost use Rattle.rules.specs.ReadPlan.{is_empty, every};
 ghost use Rattle.rules.specs.Types.{leaf_count_of, same_type};
 ghost use Rattle.sheet.specs.Seen.{types_in};
 ghost use Rattle.sheet.specs.SheetExpressions.{type_at_place};
@@ -76,7 +76,7 @@ fn narrow(
 ) -> Option<Clip>
     requires here { place < length (types_in sheet.now) }
     requires there { goal < length (types_in sheet.now) }
-    ensures { shown result table.new ≡ (if is_none (paths_on sheet.now uses.now root) && (every (same_type (type_at_place sheet.now goal)) (targets_on sheet.now uses.now.casts.now root) && nat_eq leaf_count (leaf_count_of (type_at_place sheet.now place))) then clip_in sheet.now place goal else None) }
+    ensures { shown result table.new ≡ (if is_empty (paths_on sheet.now uses.now root) && (every (same_type (type_at_place sheet.now goal)) (targets_on sheet.now uses.now.casts.now root) && nat_eq leaf_count (leaf_count_of (type_at_place sheet.now place))) then clip_in sheet.now place goal else None) }
 {
     if has_access(sheet, root, uses.accesses) {
         return None;

@@ -8,7 +8,7 @@ use Rattle.rules.specs.Keeping.{kept_leaves, clipped}
 use Rattle.rules.specs.Leaves.{Leaf, roots, NeverFalls}
 use Rattle.rules.specs.Names.{Name}
 use Rattle.rules.specs.PlanLaws.{field_count, is_read_by, is_read_leaf, is_read, roots_read, kept_at, kept_each, PlannedExactly, PlansExact}
-use Rattle.rules.specs.ReadPlan.{Reading, unread, entire, along, narrowed, leaves_on, first_number, is_along, read_leaves, read_keep, kept_field, leaves_from, fields_from, plan_by, on, unlisted, is_none, every, root_reading, by_paths, assembled_reading, all_columns, indices, is_plain_root, all_collected, filter_findings, filter_reading, can_narrow, by_casts, cast_reading, walked_reading, collection_reading}
+use Rattle.rules.specs.ReadPlan.{Reading, unread, entire, along, narrowed, leaves_on, first_number, is_along, read_leaves, read_keep, kept_field, leaves_from, fields_from, plan_by, on, unlisted, is_empty, every, root_reading, by_paths, assembled_reading, all_columns, indices, is_plain_root, all_collected, filter_findings, filter_reading, can_narrow, by_casts, cast_reading, walked_reading, collection_reading}
 use Rattle.rules.specs.RootPlan.{is_listed}
 use Rattle.rules.specs.Types.{Ty, Fields, empty, field, File, leaf_count_of, type_at, same_type}
 use Rattle.rules.proofs.KeptNumbers.{Between, between_forth, between_wider, between_join, unlisted_below, unlisted_above, listed_between, listed_join, ascends, kept_between}
@@ -211,7 +211,7 @@ module _ (file : File) (ls : List Leaf) where
     where
       by : (z : Bool) → can_narrow file ls j h gs paths ≡ z → cond z (narrowed h) entire ≡ narrowed g → AsMany j
       by true c x =
-          let a = (and_parts (is_none paths) _ c).1 in
+          let a = (and_parts (is_empty paths) _ c).1 in
           let b = (and_parts (every (same_type h) gs) _ a).1 in
           eqb-true _ _ (and_parts (eqb (length (leaves_on j 0 ls)) (leaf_count_of (type_at file j))) _ b).0
       by false c x = absurd (entire_not g x)
@@ -223,8 +223,8 @@ module _ (file : File) (ls : List Leaf) where
 
   walked_fits : (listed : List ℕ) (accesses : List (ℕ × List Name)) (casts : List (ℕ × Ty)) (j : ℕ) (g : Ty) → walked_reading file ls listed accesses casts j ≡ narrowed g → AsMany j
   walked_fits listed accesses casts j g e =
-      either (is_none casts) (cond (is_none accesses) (root_reading listed j) (assembled_reading listed accesses j)) (cast_reading file ls listed accesses casts j) (narrowed g) (AsMany j)
-      (λ x. absurd (either (is_none accesses) (root_reading listed j) (assembled_reading listed accesses j) (narrowed g) ⊥ (root_not listed j g) (assembled_not listed accesses j g) x))
+      either (is_empty casts) (cond (is_empty accesses) (root_reading listed j) (assembled_reading listed accesses j)) (cast_reading file ls listed accesses casts j) (narrowed g) (AsMany j)
+      (λ x. absurd (either (is_empty accesses) (root_reading listed j) (assembled_reading listed accesses j) (narrowed g) ⊥ (root_not listed j g) (assembled_not listed accesses j g) x))
       (cast_fits listed accesses casts j g) e
 
   collection_fits : (es : List Expr) (accesses : List (ℕ × List Name)) (casts : List (ℕ × Ty)) (j : ℕ) (g : Ty) → collection_reading file ls es accesses casts j ≡ narrowed g → AsMany j

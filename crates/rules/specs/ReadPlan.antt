@@ -84,9 +84,9 @@ module _ {A : Type 0} where
   unlisted listed [] = []
   unlisted listed (x ∷ xs) = cond (is_listed listed x.0) (unlisted listed xs) (x ∷ unlisted listed xs)
 
-  abbrev pub is_none : List A → Bool
-  is_none [] = true
-  is_none (x ∷ xs) = false
+  abbrev pub is_empty : List A → Bool
+  is_empty [] = true
+  is_empty (x ∷ xs) = false
 
 abbrev pub every : {A : Type 0} → (A → Bool) → List A → Bool
 every test [] = true
@@ -135,7 +135,7 @@ module _ (file : File) (ls : List Leaf) where
   -- of the root as its type has, and the clip comes to something
   abbrev pub can_narrow : ℕ → Ty → List Ty → List (List Name) → Bool
   can_narrow j g gs paths =
-      is_none paths && (every (same_type g) gs && (length (leaves_on j 0 ls) == leaf_count_of (type_at file j) && is_clipped (type_at file j) g))
+      is_empty paths && (every (same_type g) gs && (length (leaves_on j 0 ls) == leaf_count_of (type_at file j) && is_clipped (type_at file j) g))
 
   abbrev pub by_casts : ℕ → List Ty → List (List Name) → Reading
   by_casts j [] paths = by_paths paths
@@ -148,7 +148,7 @@ module _ (file : File) (ls : List Leaf) where
   -- casts that are left once those on required roots are dropped ask for clipping; else accesses ask for assembling
   abbrev pub walked_reading : List ℕ → List (ℕ × List Name) → List (ℕ × Ty) → ℕ → Reading
   walked_reading listed accesses casts j =
-      cond (is_none casts) (cond (is_none accesses) (root_reading listed j) (assembled_reading listed accesses j)) (cast_reading listed accesses casts j)
+      cond (is_empty casts) (cond (is_empty accesses) (root_reading listed j) (assembled_reading listed accesses j)) (cast_reading listed accesses casts j)
 
   -- How the expressions of a collection have root j read, where it recorded these accesses and casts: by their columns'
   -- indices if all of them are columns, or if every column's index has its name and no Struct inside; else by the walk.

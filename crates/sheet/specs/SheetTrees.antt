@@ -2,7 +2,7 @@
 use Rattle.std.specs.Prelude.{ℕ, ◌<◌, Bool, List, [], ◌∷◌, map, length, Some, None, Option, ◌==◌}
 use Rattle.rules.specs.Preorder.{tree_at, Stands}
 use Rattle.rules.specs.Trees.{Tree, node, Forest, none, more, label, first_tree, forest}
-use Rattle.rules.specs.Types.{Wrapper, list, large_list, list_view, large_list_view, fixed_size_list, map as mapOf, Ty, leaf, struct, wrap, Fields, empty, field, File}
+use Rattle.rules.specs.Types.{Wrapper, list, large_list, list_view, large_list_view, fixed_size_list, map as map_of, Ty, leaf, struct, wrap, Fields, empty, field, File}
 use Rattle.format.specs.declared.kinds.TypeKind.{TypeKind}
 use Rattle.format.specs.declared.kinds.TypeKind.TheVariants.{Leaf, Struct, List as ListKind, LargeList, ListView, LargeListView, FixedSizeList, Map}
 use Rattle.format.specs.declared.records.TypeRecord.{TypeRecord}
@@ -49,7 +49,7 @@ module _ (names : List ℕ) where
   by_kind (Some ListView) detail fs = wrapped list_view fs
   by_kind (Some LargeListView) detail fs = wrapped large_list_view fs
   by_kind (Some FixedSizeList) detail fs = wrapped (fixed_size_list detail) fs
-  by_kind (Some Map) detail fs = wrapped (mapOf detail) fs
+  by_kind (Some Map) detail fs = wrapped (map_of detail) fs
 
   abbrev mutual
     pub type_of : Tree TypeRecord → Ty
