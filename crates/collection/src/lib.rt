@@ -1,4 +1,5 @@
-//! Collections of expressions, the plans that they are drawn into, and the plans of filters.
+//! Inner, and begun: how a collection writes down expressions, casts and accesses, within its limits. It cannot be begun,
+//! offered to or drawn yet.
 #![tactic(auto)]
 
 mod offers;
