@@ -1,10 +1,9 @@
--- Accesses that are gathered one after the other, and what is left of their paths. Assumes nothing.
-use Rattle.std.proofs.Common.{◌≡◌, ℕ, ◌+◌, ◌-◌, ◌^◌, ◌<◌, ◌≤◌, min, Bool, true, false, cond, not, ◌&&◌, eqb, List, [], ◌∷◌, ◌++◌, length, get_or, take, drop, Some, None, Decides, sym, refl, ap, ◌∙◌, inl, inr, append_assoc, append-nil, arith, lit<}
+-- The accesses that go on at a level, and what is left of their paths. Assumes nothing.
+use Rattle.std.proofs.Common.{◌≡◌, ℕ, ◌+◌, ◌-◌, ◌^◌, ◌<◌, ◌≤◌, min, Bool, true, false, cond, not, ◌&&◌, ◌||◌, eqb, leb, List, [], ◌∷◌, length, get_or, drop, filter, Some, None, sym, refl, ap, ◌∙◌, inl, inr, arith, lit<}
 use Rattle.std.proofs.lemmas.List.FromFn.{length-map-range_with_len, get_or-map-range_with_len}
-use Rattle.std.proofs.lemmas.Slice.Eq.{bytes_eq-Decides}
-use Rattle.std.proofs.lemmas.List.{at_drop_more, at_drop_all, get_or_past, drop_more, drop_all, map_push}
-use Rattle.std.proofs.lemmas.Bool.{cases_lt}
-use Rattle.std.proofs.lemmas.Bool.Decides.{same_from_decides}
+use Rattle.std.proofs.lemmas.List.{get_or_past, drop_more, drop_all}
+use Rattle.std.proofs.lemmas.Bool.{cases_lt, lt-ltb, le-ltb, lt-leb, le-leb}
+use Rattle.std.specs.List.{list_any}
 use Rattle.std.specs.Str.{bytes_eq}
 use Rattle.rules.specs.Keeping.{ends_here, onward}
 use Rattle.rules.specs.Names.{Name}
@@ -14,16 +13,16 @@ use Rattle.sheet.specs.declared.sheet.Sheet.{Sheet}
 use Rattle.sheet.specs.Seen.{nodes_in}
 use Rattle.sheet.proofs.Sheets.{node_count_lem}
 use Rattle.access.specs.declared.accesses.StructFieldAccess.{StructFieldAccess}
-use Rattle.access.specs.declared.paths.Paths.{Paths}
 use Rattle.access.specs.Accesses.{node_name, path_at, is_access, accesses_in, added}
-use Rattle.access.specs.Following.{left}
+use Rattle.access.specs.Following.{left, is_on, goes_on}
 
-abbrev pub blank : StructFieldAccess
-blank = record { root_index = 0; first_part = 0; parts = 0 }
+counts : {A : Type 0} (root r : ℕ) (x : Bool) (p : A) (rest : List (ℕ × A)) → on root (added (cond x (Some (r, p)) None) rest) ≡ cond (x && eqb r root) (p ∷ on root rest) (on root rest)
+counts root r true p rest = refl
+counts root r false p rest = refl
 
--- those that a list of accesses has
-abbrev held : Paths → List StructFieldAccess
-held p = take p.count p.accesses
+some_on : {A : Type 0} (b any : Bool) (p : A) (rest : List A) → any ≡ not (is_empty rest) → (b || any) ≡ not (is_empty (cond b (p ∷ rest) rest))
+some_on true any p rest h = refl
+some_on false any p rest h = h
 
 module _ (s : Sheet) where
   few_nodes : length (nodes_in s) ≤ 512
@@ -39,136 +38,64 @@ module _ (s : Sheet) where
             get_or_past (nodes_in s) q no_node (omega arith) ∙ sym (get_or_past (nodes_in s) p no_node (omega arith))
       ]
 
-  module _ (a : StructFieldAccess) (depth : ℕ) where
-    path_long : length (path_at s a) ≡ a.parts
-    path_long = length-map-range_with_len (node_name s) a.first_part a.parts
+  -- an access that a test lets through, before others
+  front : (depth : ℕ) (b : Bool) (a : StructFieldAccess) (xs : List StructFieldAccess) → left s depth (cond b (a ∷ xs) xs) ≡ cond b (drop depth (path_at s a) ∷ left s depth xs) (left s depth xs)
+  front depth true a xs = refl
+  front depth false a xs = refl
 
-    path_past : a.parts ≤ depth → drop depth (path_at s a) ≡ []
-    path_past h = drop_all depth (path_at s a) (omega (arith, path_long))
-
-    path_next : depth < a.parts → drop depth (path_at s a) ≡ node_name s (a.first_part + depth) ∷ drop (depth + 1) (path_at s a)
-    path_next h =
-        drop_more (path_at s a) depth [] (omega (arith, path_long))
-        ∙ ap (λ n. n ∷ drop (depth + 1) (path_at s a)) (get_or-map-range_with_len (node_name s) a.first_part a.parts depth (a.first_part + depth) [] h refl)
-
-  -- THE ACCESSES ON A ROOT
   module _ (root : ℕ) where
-    abbrev is_on : StructFieldAccess → Bool
-    is_on a = is_access s a && eqb a.root_index root
+    pub all_on : (xs : List StructFieldAccess) → left s 0 (filter (is_on s root) xs) ≡ on root (accesses_in s xs)
+    all_on [] = refl
+    all_on (a ∷ xs) =
+        front 0 (is_on s root a) a (filter (is_on s root) xs)
+        ∙ ap (λ w. cond (is_on s root a) (path_at s a ∷ w) w) (all_on xs)
+        ∙ sym (counts root a.root_index (is_access s a) (path_at s a) (accesses_in s xs))
 
-    counts : (x : Bool) (r : ℕ) (p : List Name) (rest : List (ℕ × List Name)) → on root (added (cond x (Some (r, p)) None) rest) ≡ cond (x && eqb r root) (p ∷ on root rest) (on root rest)
-    counts true r p rest = refl
-    counts false r p rest = refl
+    pub any_on : (xs : List StructFieldAccess) → list_any (is_on s root) xs ≡ not (is_empty (on root (accesses_in s xs)))
+    any_on [] = refl
+    any_on (a ∷ xs) =
+        some_on (is_on s root a) (list_any (is_on s root) xs) (path_at s a) (on root (accesses_in s xs)) (any_on xs)
+        ∙ ap (λ w. not (is_empty w)) (sym (counts root a.root_index (is_access s a) (path_at s a) (accesses_in s xs)))
 
-    module _ (xs : List StructFieldAccess) where
-      abbrev rest : ℕ → List (List Name)
-      rest i = on root (accesses_in s (drop i xs))
+  module _ (depth : ℕ) where
+    module _ (a : StructFieldAccess) where
+      path_long : length (path_at s a) ≡ a.parts
+      path_long = length-map-range_with_len (node_name s) a.first_part a.parts
 
-      -- the access i, and those behind it
-      split : (i : ℕ) (b : Bool) → i < length xs → b ≡ is_on (get_or xs i blank) → rest i ≡ cond b (path_at s (get_or xs i blank) ∷ rest (i + 1)) (rest (i + 1))
-      split i b h e =
-          let a = get_or xs i blank in
-          at_drop_more (λ w. on root (accesses_in s w)) xs i blank h ∙ counts (is_access s a) a.root_index (path_at s a) (accesses_in s (drop (i + 1) xs)) ∙ ap (λ z. cond z (path_at s a ∷ rest (i + 1)) (rest (i + 1))) (sym e)
+      path_past : a.parts ≤ depth → drop depth (path_at s a) ≡ []
+      path_past h = drop_all depth (path_at s a) (omega (arith, path_long))
 
-      rest_none : (i : ℕ) → length xs ≤ i → rest i ≡ []
-      rest_none i h = at_drop_all (λ w. on root (accesses_in s w)) xs i h
+      path_next : depth < a.parts → drop depth (path_at s a) ≡ node_name s (a.first_part + depth) ∷ drop (depth + 1) (path_at s a)
+      path_next h =
+          drop_more (path_at s a) depth [] (omega (arith, path_long))
+          ∙ ap (λ n. n ∷ drop (depth + 1) (path_at s a)) (get_or-map-range_with_len (node_name s) a.first_part a.parts depth (a.first_part + depth) [] h refl)
 
-      -- the paths that are gathered, and those to come, are all
-      abbrev pub Gathered : Paths → ℕ → Type 0
-      Gathered p i = (p.count ≤ i) × (left s 0 (held p) ++ rest i ≡ rest 0)
+    pub any_ends : (xs : List StructFieldAccess) → list_any (λ a. leb a.parts depth) xs ≡ ends_here (left s depth xs)
+    any_ends [] = refl
+    any_ends (a ∷ xs) =
+        elim (cases_lt depth a.parts) [
+          | inl h ↦
+              ap (λ b. b || list_any (λ x. leb x.parts depth) xs) (lt-leb a.parts depth h) ∙ any_ends xs
+              ∙ ap (λ p. ends_here (p ∷ left s depth xs)) (sym (path_next a h))
+          | inr h ↦
+              ap (λ b. b || list_any (λ x. leb x.parts depth) xs) (le-leb a.parts depth h)
+              ∙ ap (λ p. ends_here (p ∷ left s depth xs)) (sym (path_past a h))
+        ]
 
-      pub none_gathered : (p : Paths) → p.count ≡ 0 → Gathered p 0
-      none_gathered p e = (omega arith, ap (λ n. left s 0 (take n p.accesses) ++ rest 0) e)
-
-      pub one_gathered : (p q : Paths) (i : ℕ) → i < length xs → true ≡ is_on (get_or xs i blank) → q.count ≡ p.count + 1 → held q ≡ held p ++ get_or xs i blank ∷ [] → Gathered p i → Gathered q (i + 1)
-      one_gathered p q i h e n more inv =
-          let a = get_or xs i blank in (
-            omega (arith, inv.0),
-            ap (λ w. left s 0 w ++ rest (i + 1)) more ∙ ap (λ w. w ++ rest (i + 1)) (map_push (λ x. drop 0 (path_at s x)) (held p) a)
-                ∙ append_assoc (left s 0 (held p)) (path_at s a ∷ []) (rest (i + 1)) ∙ ap (λ w. left s 0 (held p) ++ w) (sym (split i true h e)) ∙ inv.1,
-          )
-
-      pub one_passed : (p : Paths) (i : ℕ) → i < length xs → false ≡ is_on (get_or xs i blank) → Gathered p i → Gathered p (i + 1)
-      one_passed p i h e inv = (omega (arith, inv.0), ap (λ w. left s 0 (held p) ++ w) (sym (split i false h e)) ∙ inv.1)
-
-      pub all_gathered : (p : Paths) (i : ℕ) → length xs ≤ i → Gathered p i → left s 0 (held p) ≡ on root (accesses_in s xs)
-      all_gathered p i h inv = sym (append-nil (left s 0 (held p))) ∙ ap (λ w. left s 0 (held p) ++ w) (sym (rest_none i h)) ∙ inv.1
-
-      -- whether there is any
-      abbrev pub Unfound : ℕ → Type 0
-      Unfound i = rest i ≡ rest 0
-
-      pub found : (i : ℕ) → i < length xs → true ≡ is_on (get_or xs i blank) → Unfound i → true ≡ not (is_empty (rest 0))
-      found i h e inv = ap (λ w. not (is_empty w)) (sym (split i true h e) ∙ inv)
-
-      pub not_here : (i : ℕ) → i < length xs → false ≡ is_on (get_or xs i blank) → Unfound i → Unfound (i + 1)
-      not_here i h e inv = sym (split i false h e) ∙ inv
-
-      pub nowhere : (i : ℕ) → length xs ≤ i → Unfound i → false ≡ not (is_empty (rest 0))
-      nowhere i h inv = ap (λ w. not (is_empty w)) (sym (rest_none i h) ∙ inv)
-
-  module _ (depth : ℕ) (xs : List StructFieldAccess) where
-    -- WHERE A PATH ENDS
-    abbrev pub ends_from : ℕ → Bool
-    ends_from i = ends_here (left s depth (drop i xs))
-
-    pub ends_now : (i : ℕ) → i < length xs → (get_or xs i blank).parts ≤ depth → ends_from i ≡ true
-    ends_now i h low =
-        at_drop_more (λ w. ends_here (left s depth w)) xs i blank h
-        ∙ ap (λ p. ends_here (p ∷ left s depth (drop (i + 1) xs))) (path_past (get_or xs i blank) depth low)
-
-    pub ends_later : (i : ℕ) → i < length xs → depth < (get_or xs i blank).parts → ends_from i ≡ ends_from (i + 1)
-    ends_later i h high =
-        at_drop_more (λ w. ends_here (left s depth w)) xs i blank h
-        ∙ ap (λ p. ends_here (p ∷ left s depth (drop (i + 1) xs))) (path_next (get_or xs i blank) depth high)
-
-    pub ends_nowhere : (i : ℕ) → length xs ≤ i → ends_from i ≡ false
-    ends_nowhere i h = at_drop_all (λ w. ends_here (left s depth w)) xs i h
-
-    -- WHICH PATHS GO ON
-    module _ (name : Name) where
-      abbrev ahead : ℕ → List (List Name)
-      ahead i = onward name (left s depth (drop i xs))
-
-      opened : (i : ℕ) → i < length xs → ahead i ≡ onward name (drop depth (path_at s (get_or xs i blank)) ∷ left s depth (drop (i + 1) xs))
-      opened i h = at_drop_more (λ w. onward name (left s depth w)) xs i blank h
-
-      -- the paths that go on, and those to come, are all that go on
-      abbrev pub Going : Paths → ℕ → Type 0
-      Going p i = (p.count ≤ i) × (left s (depth + 1) (held p) ++ ahead i ≡ ahead 0)
-
-      pub none_going : (p : Paths) → p.count ≡ 0 → Going p 0
-      none_going p e = (omega arith, ap (λ n. left s (depth + 1) (take n p.accesses) ++ ahead 0) e)
-
-      -- an access with one more part, which was compared
-      module _ (p : Paths) (i : ℕ) (b : Bool) (part : Name) (h : i < length xs) (high : depth < (get_or xs i blank).parts) (is : part ≡ node_name s ((get_or xs i blank).first_part + depth)) (says : Decides b (name ≡ part)) (inv : Going p i) where
-        abbrev a : StructFieldAccess
-        a = get_or xs i blank
-
-        named : ahead i ≡ cond b (drop (depth + 1) (path_at s a) ∷ ahead (i + 1)) (ahead (i + 1))
-        named =
-            let test = same_from_decides b (bytes_eq name part) says (bytes_eq-Decides name part) in
-            opened i h ∙ ap (λ w. onward name (w ∷ left s depth (drop (i + 1) xs))) (path_next a depth high)
-            ∙ ap (λ m. cond (bytes_eq name m) (drop (depth + 1) (path_at s a) ∷ ahead (i + 1)) (ahead (i + 1))) (sym is)
-            ∙ ap (λ z. cond z (drop (depth + 1) (path_at s a) ∷ ahead (i + 1)) (ahead (i + 1))) (sym test)
-
-        pub one_going : (q : Paths) → b ≡ true → q.count ≡ p.count + 1 → held q ≡ held p ++ a ∷ [] → Going q (i + 1)
-        one_going q hit n more =
-            let step = named ∙ ap (λ z. cond z (drop (depth + 1) (path_at s a) ∷ ahead (i + 1)) (ahead (i + 1))) hit in (
-              omega (arith, inv.0),
-              ap (λ w. left s (depth + 1) w ++ ahead (i + 1)) more ∙ ap (λ w. w ++ ahead (i + 1)) (map_push (λ x. drop (depth + 1) (path_at s x)) (held p) a)
-                  ∙ append_assoc (left s (depth + 1) (held p)) (drop (depth + 1) (path_at s a) ∷ []) (ahead (i + 1)) ∙ ap (λ w. left s (depth + 1) (held p) ++ w) (sym step) ∙ inv.1,
-            )
-
-        pub other_name : b ≡ false → Going p (i + 1)
-        other_name miss =
-            let step = named ∙ ap (λ z. cond z (drop (depth + 1) (path_at s a) ∷ ahead (i + 1)) (ahead (i + 1))) miss in
-            (omega (arith, inv.0), ap (λ w. left s (depth + 1) (held p) ++ w) (sym step) ∙ inv.1)
-
-      pub no_part : (p : Paths) (i : ℕ) → i < length xs → (get_or xs i blank).parts ≤ depth → Going p i → Going p (i + 1)
-      no_part p i h low inv =
-          let step = opened i h ∙ ap (λ w. onward name (w ∷ left s depth (drop (i + 1) xs))) (path_past (get_or xs i blank) depth low) in
-          (omega (arith, inv.0), ap (λ w. left s (depth + 1) (held p) ++ w) (sym step) ∙ inv.1)
-
-      pub all_going : (p : Paths) (i : ℕ) → length xs ≤ i → Going p i → left s (depth + 1) (held p) ≡ onward name (left s depth xs)
-      all_going p i h inv = sym (append-nil (left s (depth + 1) (held p))) ∙ ap (λ w. left s (depth + 1) (held p) ++ w) (sym (at_drop_all (λ w. onward name (left s depth w)) xs i h)) ∙ inv.1
+    pub all_onward : (name : Name) (xs : List StructFieldAccess) → left s (depth + 1) (filter (goes_on s depth name) xs) ≡ onward name (left s depth xs)
+    all_onward name [] = refl
+    all_onward name (a ∷ xs) =
+        let go = filter (goes_on s depth name) xs in
+        let named = bytes_eq name (node_name s (a.first_part + depth)) in
+        let rest = onward name (left s depth xs) in
+        elim (cases_lt depth a.parts) [
+          | inl h ↦
+              ap (λ b. left s (depth + 1) (cond (b && named) (a ∷ go) go)) (lt-ltb depth a.parts h)
+              ∙ front (depth + 1) named a go
+              ∙ ap (λ w. cond named (drop (depth + 1) (path_at s a) ∷ w) w) (all_onward name xs)
+              ∙ ap (λ p. onward name (p ∷ left s depth xs)) (sym (path_next a h))
+          | inr h ↦
+              ap (λ b. left s (depth + 1) (cond (b && named) (a ∷ go) go)) (le-ltb depth a.parts h)
+              ∙ all_onward name xs
+              ∙ ap (λ p. onward name (p ∷ left s depth xs)) (sym (path_past a h))
+        ]

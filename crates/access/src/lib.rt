@@ -6,4 +6,4 @@ mod paths;
 mod prune;
 
 pub use accesses::{CastColumnAccess, StructFieldAccess};
-pub use prune::{copy_type, has_access, prune_struct_type};
+pub use prune::{has_access, prune_struct_type};

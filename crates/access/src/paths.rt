@@ -1,105 +1,100 @@
 //! The accesses that go on at a level of a type: those whose first parts, up to a depth, led there.
-ghost use Rattle.std.specs.Prelude.{◌≡◌, ◌+◌, ◌<◌, ◌≤◌, [], ◌∷◌, ◌++◌, length, take};
+ghost use Rattle.std.specs.Prelude.{◌≡◌, ◌+◌, ◌≤◌, Bool, [], filter, length, slice_index_or};
+ghost use Rattle.std.specs.Fn.{FnReturnsAt};
 ghost use Rattle.rules.specs.Keeping.{ends_here, onward as going_on};
 ghost use Rattle.rules.specs.ReadPlan.{on};
+ghost use Rattle.format.specs.Records.{name_bytes, no_type};
 ghost use Rattle.sheet.specs.declared.sheet.Sheet.{Sheet};
+ghost use Rattle.sheet.specs.Seen.{names_in, types_in};
+ghost use Rattle.access.specs.declared.accesses.StructFieldAccess.{StructFieldAccess};
 ghost use Rattle.access.specs.Accesses.{accesses_in};
 ghost use Rattle.access.specs.Following.{left};
 
 use crate::accesses::StructFieldAccess;
+use arrayvec::ArrayVec;
 use sheet::Sheet;
+use sheet::inner::TypeRef;
 
-// The most accesses.
+// The most accesses. Who passes a slice of them says that they are no more; a level has that with it.
 const MOST: usize = 256;
 
-/// A list of accesses.
-#[derive(Drop)]
-pub(crate) struct Paths {
-    accesses: [StructFieldAccess; MOST],
-    count: usize,
-    ghost room: { length accesses ≡ 256 },
-    ghost few: { count ≤ 256 },
-}
+/// Accesses that were gathered.
+pub(crate) type Paths = ArrayVec<StructFieldAccess, MOST>;
 
-impl Paths {
-    pub(crate) fn none() -> Paths
-        ensures { result.count ≡ 0 }
-    {
-        let blank = StructFieldAccess {
-            root_index: 0,
-            first_part: 0,
-            parts: 0,
-        };
-        Paths {
-            accesses: [blank; MOST],
-            count: 0,
+// Gathers the accesses that pass a test.
+fn gather<F: Fn(&StructFieldAccess) -> bool>(
+    accesses: &[StructFieldAccess],
+    test: F,
+    paths: &mut Paths,
+)
+    requires few { length accesses.now ≤ 256 }
+    requires callable { F.IsAlwaysCallable test }
+    ensures { (p : StructFieldAccess → Bool) → ((x : StructFieldAccess) (b : Bool) → FnReturnsAt F.Fn test x b → b ≡ p x) → paths.new.items ≡ filter p accesses.now }
+{
+    paths.clear();
+    for access in accesses {
+        if test(access) {
+            paths.push(*access);
         }
-    }
-
-    fn clear(&mut self)
-        ensures { self.new.count ≡ 0 }
-    {
-        self.count = 0;
-    }
-
-    fn add(&mut self, access: StructFieldAccess)
-        requires { self.old.count < 256 }
-        ensures count { self.new.count ≡ self.old.count + 1 }
-        ensures added { take self.new.count self.new.accesses ≡ take self.old.count self.old.accesses ++ access ∷ [] }
-    {
-        self.accesses[self.count] = access;
-        self.count += 1;
-    }
-
-    pub(crate) fn as_slice(&self) -> &[StructFieldAccess]
-        ensures all { result.now ≡ take self.now.count self.now.accesses }
-        ensures few { length result.now ≤ 256 }
-    {
-        &self.accesses[..self.count]
     }
 }
 
 /// The accesses on a root that are in the sheet.
 pub(crate) fn on_root(sheet: &Sheet, root: usize, accesses: &[StructFieldAccess]) -> Paths
     requires { length accesses.now ≤ 256 }
-    ensures { left sheet.now 0 (take result.count result.accesses) ≡ on root (accesses_in sheet.now accesses.now) }
+    ensures { left sheet.now 0 result.items ≡ on root (accesses_in sheet.now accesses.now) }
 {
-    let mut paths = Paths::none();
-    for access in accesses {
-        if access.is_on(sheet, root) {
-            paths.add(*access);
-        }
-    }
+    let mut paths = Paths::new();
+    gather(accesses, |access| access.is_on(sheet, root), &mut paths);
     paths
 }
 
-/// Whether some path ends at a depth.
-pub(crate) fn ends_here(accesses: &[StructFieldAccess], depth: usize) -> bool
-    ensures { (s : Sheet) → result ≡ ends_here (left s depth accesses.now) }
-{
-    for access in accesses {
-        if access.parts as usize <= depth {
-            return true;
-        }
-    }
-    false
+/// The accesses that go on at a level, and how many of their parts led there.
+#[derive(Clone, Copy)]
+pub(crate) struct Level<'a> {
+    accesses: &'a [StructFieldAccess],
+    depth: usize,
+    ghost few: { length accesses.now ≤ 256 },
 }
 
-/// Gathers the accesses whose path has a name at a depth.
-pub(crate) fn onward(
-    sheet: &Sheet,
-    accesses: &[StructFieldAccess],
-    depth: usize,
-    name: &[u8],
-    paths: &mut Paths,
-)
-    requires { length accesses.now ≤ 256 }
-    ensures { left sheet.now (depth + 1) (take paths.new.count paths.new.accesses) ≡ going_on name.now (left sheet.now depth accesses.now) }
-{
-    paths.clear();
-    for access in accesses {
-        if access.parts as usize > depth && name == access.part(sheet, depth) {
-            paths.add(*access);
+impl<'a> Level<'a> {
+    pub(crate) fn at(depth: usize, paths: &'a Paths) -> Level<'a>
+        ensures depth { result.depth ≡ depth }
+        ensures accesses { result.accesses.now ≡ paths.now.items }
+    {
+        Level {
+            accesses: paths.as_slice(),
+            depth,
         }
+    }
+
+    pub(crate) fn depth(self) -> usize
+        ensures { result ≡ self.entry.depth }
+    {
+        self.depth
+    }
+
+    /// Whether some path ends here.
+    pub(crate) fn ends_here(self) -> bool
+        ensures { (s : Sheet) → result ≡ ends_here (left s self.entry.depth self.entry.accesses.now) }
+    {
+        let depth = self.depth;
+        self.accesses
+            .iter()
+            .any(|access| access.parts as usize <= depth)
+    }
+
+    /// Gathers the accesses whose path goes on by the name of a type.
+    pub(crate) fn onward(self, child: TypeRef<'_>, paths: &mut Paths)
+        ensures { left child.entry.sheet.now (self.entry.depth + 1) paths.new.items ≡ going_on (name_bytes (names_in child.entry.sheet.now) (slice_index_or (types_in child.entry.sheet.now) child.entry.place no_type).name) (left child.entry.sheet.now self.entry.depth self.entry.accesses.now) }
+    {
+        let sheet = child.sheet();
+        let name = child.name();
+        let depth = self.depth;
+        gather(
+            self.accesses,
+            |access| access.goes_on(sheet, depth, name),
+            paths,
+        );
     }
 }

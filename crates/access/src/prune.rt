@@ -1,110 +1,70 @@
 //! The pruning of types by accesses. Ported from `src/projection_read_plan.rs` of the crate
 //! datafusion-datasource-parquet 55.0.0, changed: types are records of a sheet and are written to a lent buffer, and in
 //! place of a tree of accesses each level has the list of those that go on there.
-ghost use Rattle.std.specs.Prelude.{◌≡◌, ◌+◌, ◌<◌, ◌≤◌, not, ◌++◌, length, take};
-ghost use Rattle.rules.specs.Keeping.{pruned};
+ghost use Rattle.std.specs.Prelude.{◌≡◌, ◌+◌, ◌≤◌, not, ◌++◌, length, take};
 ghost use Rattle.rules.specs.ReadPlan.{on, is_empty};
 ghost use Rattle.rules.specs.Trees.{preorder, size};
 ghost use Rattle.sheet.specs.KeptTrees.{kept_tree};
-ghost use Rattle.sheet.specs.Seen.{types_in};
-ghost use Rattle.sheet.specs.SheetExpressions.{type_at_place};
 ghost use Rattle.sheet.specs.SheetTrees.{type_tree};
 ghost use Rattle.access.specs.Accesses.{accesses_in, pruned_at};
-ghost use Rattle.access.specs.Following.{left};
+ghost use Rattle.access.specs.Following.{left, kept_at};
 
 use crate::accesses::StructFieldAccess;
-use crate::paths::{Paths, ends_here, on_root, onward};
-use sheet::{Sheet, TypeRecord};
-
-// The kind of a Struct.
-const STRUCT: u8 = 2;
-
-/// Copies the type at a place, with all below it, to a buffer from `at` on. Tells where it ends.
-pub fn copy_type(sheet: &Sheet, place: usize, fields: &mut [TypeRecord], at: usize) -> usize
-    requires there { place < length (types_in sheet.now) }
-    requires room { at + size (type_tree sheet.now place) ≤ length fields.old }
-    ensures copied { take result fields.new ≡ take at fields.old ++ preorder (type_tree sheet.now place) }
-    ensures end { result ≡ at + size (type_tree sheet.now place) }
-{
-    let span = sheet.type_record(place).span as usize;
-    for k in 0..span {
-        fields[at + k] = sheet.type_record(place + k);
-    }
-    at + span
-}
+use crate::paths::{Level, Paths, on_root};
+use sheet::inner::TypeRef;
+use sheet::{Sheet, TypeKind, TypeRecord};
 
 /// Whether some access that is in the sheet is on a root.
 pub fn has_access(sheet: &Sheet, root: usize, accesses: &[StructFieldAccess]) -> bool
     ensures { result ≡ not (is_empty (on root (accesses_in sheet.now accesses.now))) }
 {
-    for access in accesses {
-        if access.is_on(sheet, root) {
-            return true;
-        }
-    }
-    false
+    accesses.iter().any(|access| access.is_on(sheet, root))
 }
 
-// Writes what the accesses, whose first parts led to the type at a place, leave of it. Tells where it ends.
-fn prune(
-    sheet: &Sheet,
-    place: usize,
-    accesses: &[StructFieldAccess],
-    depth: usize,
-    fields: &mut [TypeRecord],
-    at: usize,
-) -> usize
-    requires there { place < length (types_in sheet.now) }
-    requires room { at + size (type_tree sheet.now place) ≤ length fields.old }
-    requires few { length accesses.now ≤ 256 }
-    requires low { depth + size (type_tree sheet.now place) ≤ 2048 }
-    ensures copied { take result fields.new ≡ take at fields.old ++ preorder (kept_tree (pruned (left sheet.now depth accesses.now) (type_at_place sheet.now place)) (type_tree sheet.now place)) }
-    ensures end { result ≡ at + size (kept_tree (pruned (left sheet.now depth accesses.now) (type_at_place sheet.now place)) (type_tree sheet.now place)) }
+// Writes what the accesses that go on at a type leave of it, to the front of a buffer. Tells how many records that are.
+fn prune(here: TypeRef<'_>, level: Level<'_>, fields: &mut [TypeRecord]) -> usize
+    requires room { size (type_tree here.sheet.now here.place) ≤ length fields.old }
+    requires low { level.depth + size (type_tree here.sheet.now here.place) ≤ 2048 }
+    ensures copied { take result fields.new ≡ preorder (kept_at here.entry.sheet.now (left here.entry.sheet.now level.entry.depth level.entry.accesses.now) here.entry.place) }
+    ensures count { result ≡ size (kept_at here.entry.sheet.now (left here.entry.sheet.now level.entry.depth level.entry.accesses.now) here.entry.place) }
 {
-    let head = sheet.type_record(place);
-    if head.kind != STRUCT || ends_here(accesses, depth) {
-        return copy_type(sheet, place, fields, at);
+    if here.kind() != TypeKind::Struct || level.ends_here() {
+        return here.copy_into(fields);
     }
     // The head is written last, once its children and its span are known.
-    let mut end = at + 1;
+    let head = here.record();
+    let mut written = 1;
     let mut children = 0;
-    let mut child = place + 1;
-    let mut paths = Paths::none();
-    for _k in 0..head.children {
-        let record = sheet.type_record(child);
-        onward(sheet, accesses, depth, sheet.name(record.name), &mut paths);
-        let kept = paths.as_slice();
-        if !kept.is_empty() {
-            end = prune(sheet, child, kept, depth + 1, fields, end);
+    let mut paths = Paths::new();
+    for child in here.children() {
+        level.onward(child, &mut paths);
+        if !paths.is_empty() {
+            let deeper = Level::at(level.depth() + 1, &paths);
+            written += prune(child, deeper, &mut fields[written..]);
             children += 1;
         }
-        child += record.span as usize;
     }
-    let span = (end - at) as u16;
-    fields[at] = TypeRecord {
+    fields[0] = TypeRecord {
         children,
-        span,
+        span: written as u16,
         ..head
     };
-    end
+    written
 }
 
-/// Writes the type at a place, pruned by the accesses on a root: a type stays where a path ends, or if it is no Struct; a
-/// Struct keeps the fields that continue a path. Tells where it ends.
+/// Writes the type at a place, pruned by the accesses on a root, to the front of a buffer: a type stays where a path ends,
+/// or if it is no Struct; a Struct keeps the fields that continue a path. Tells how many records that are.
 pub fn prune_struct_type(
-    sheet: &Sheet,
-    place: usize,
+    here: TypeRef<'_>,
     root: usize,
     accesses: &[StructFieldAccess],
     fields: &mut [TypeRecord],
-    at: usize,
 ) -> usize
-    requires there { place < length (types_in sheet.now) }
-    requires room { at + size (type_tree sheet.now place) ≤ length fields.old }
+    requires room { size (type_tree here.sheet.now here.place) ≤ length fields.old }
     requires few { length accesses.now ≤ 256 }
-    ensures copied { take result fields.new ≡ take at fields.old ++ preorder (kept_tree (pruned_at sheet.now accesses.now root place) (type_tree sheet.now place)) }
-    ensures end { result ≡ at + size (kept_tree (pruned_at sheet.now accesses.now root place) (type_tree sheet.now place)) }
+    ensures copied { take result fields.new ≡ preorder (kept_tree (pruned_at here.entry.sheet.now accesses.now root here.entry.place) (type_tree here.entry.sheet.now here.entry.place)) }
+    ensures count { result ≡ size (kept_tree (pruned_at here.entry.sheet.now accesses.now root here.entry.place) (type_tree here.entry.sheet.now here.entry.place)) }
 {
-    let paths = on_root(sheet, root, accesses);
-    prune(sheet, place, paths.as_slice(), 0, fields, at)
+    let paths = on_root(here.sheet(), root, accesses);
+    prune(here, Level::at(0, &paths), fields)
 }

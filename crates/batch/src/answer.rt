@@ -1,7 +1,7 @@
 //! What a request is answered with.
 use crate::leaves::LeafList;
-use crate::request::{DirectoryKind, Request};
-use directory::{FlattenedDirectory, ListedDirectory};
+use crate::request::Request;
+use directory::{DirectoryKind, FlattenedDirectory, ListedDirectory};
 use sheet::{Fault, open};
 use std::alloc::{AllocError, Global};
 use std::str;
@@ -24,6 +24,7 @@ fn leaves(heap: Global, kind: DirectoryKind, bytes: Vec<u8>) -> Result<String, A
         Ok(sheet) => sheet,
         Err(unopened) => return refusal(heap, unopened.fault),
     };
+    // Two directories and no third: each arm is the generic code for its own.
     match kind {
         DirectoryKind::Listed => {
             let directory = ListedDirectory::new(&sheet);
@@ -32,7 +33,7 @@ fn leaves(heap: Global, kind: DirectoryKind, bytes: Vec<u8>) -> Result<String, A
             }
             .to_string(heap)
         }
-        DirectoryKind::Flat => {
+        DirectoryKind::Flattened => {
             let directory = FlattenedDirectory::new(&sheet);
             LeafList {
                 directory: &directory,

@@ -3,7 +3,7 @@ use crate::hex::Hex;
 use directory::LeafPaths;
 use std::fmt;
 
-/// A leaf: its root, and the parts of its path.
+/// A leaf: its root, and the parts of its path in digits. `pogbaye` writes paths too, by their letters and without the root.
 #[derive_where(Clone, Copy)]
 struct LeafLine<'a, D> {
     directory: &'a D,

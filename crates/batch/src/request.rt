@@ -1,23 +1,7 @@
 //! What a line asks for.
 use crate::hex;
+use directory::DirectoryKind;
 use std::alloc::{AllocError, Global};
-
-/// Which leaf directory is asked.
-#[derive(Clone, Copy)]
-pub(crate) enum DirectoryKind {
-    Listed,
-    Flat,
-}
-
-impl DirectoryKind {
-    fn of(word: &str) -> Option<DirectoryKind> {
-        match word {
-            "listed" => Some(DirectoryKind::Listed),
-            "flat" => Some(DirectoryKind::Flat),
-            _ => None,
-        }
-    }
-}
 
 /// A request, with the bytes of the sheet that it is about.
 #[derive(Drop)]
@@ -37,10 +21,10 @@ impl Request {
         }
     }
 
-    fn leaves(heap: Global, directory: &str, sheet: &str) -> Result<Request, AllocError> {
-        match (DirectoryKind::of(directory), hex::read(heap, sheet)?) {
-            (Some(kind), Some(bytes)) => Ok(Request::Leaves(kind, bytes)),
-            _ => Ok(Request::Bad),
+    fn leaves(heap: Global, kind: DirectoryKind, sheet: &str) -> Result<Request, AllocError> {
+        match hex::read(heap, sheet)? {
+            Some(bytes) => Ok(Request::Leaves(kind, bytes)),
+            None => Ok(Request::Bad),
         }
     }
 
@@ -49,8 +33,11 @@ impl Request {
         let mut words = line.split(' ');
         match (words.next(), words.next(), words.next(), words.next()) {
             (Some("open"), Some(sheet), None, _) => Request::open(heap, sheet),
-            (Some("leaves"), Some(directory), Some(sheet), None) => {
-                Request::leaves(heap, directory, sheet)
+            (Some("leaves"), Some("listed"), Some(sheet), None) => {
+                Request::leaves(heap, DirectoryKind::Listed, sheet)
+            }
+            (Some("leaves"), Some("flat"), Some(sheet), None) => {
+                Request::leaves(heap, DirectoryKind::Flattened, sheet)
             }
             (Some("plan" | "filter" | "cut" | "answer"), _, _, _) => Ok(Request::Later),
             _ => Ok(Request::Bad),

@@ -89,75 +89,50 @@ fn write_header(sheet: &mut SheetBytes, counts: Counts) -> Result<(), AllocError
     Ok(())
 }
 
-fn write_names(sheet: &mut SheetBytes, counts: Counts) -> Result<(), AllocError> {
-    for place in 0..counts.names {
-        sheet.byte(b'a' + (place % 26) as u8)?;
+// Writes so many records, each by its place.
+fn write_each<F: Fn(&mut SheetBytes, u16) -> Result<(), AllocError>>(
+    sheet: &mut SheetBytes,
+    count: u16,
+    write: F,
+) -> Result<(), AllocError>
+    requires { F.IsAlwaysCallable write }
+{
+    for place in 0..count {
+        write(sheet, place)?;
     }
     Ok(())
 }
 
-fn write_types(sheet: &mut SheetBytes, counts: Counts) -> Result<(), AllocError> {
-    for place in 0..counts.types {
-        sheet.type_record(place, TYPES[place as usize % 8])?;
-    }
-    Ok(())
-}
-
-fn write_roots(sheet: &mut SheetBytes, counts: Counts) -> Result<(), AllocError> {
-    for root in 0..counts.roots {
-        sheet.number(root.saturating_mul(8))?;
-    }
-    Ok(())
-}
-
-// Each root has four leaves, and each leaf two parts.
-fn write_leaves(sheet: &mut SheetBytes, counts: Counts) -> Result<(), AllocError> {
-    for leaf in 0..counts.leaves {
-        sheet.leaf_record(leaf / 4, leaf.saturating_mul(2), 2)?;
-    }
-    Ok(())
-}
-
-fn write_parts(sheet: &mut SheetBytes, counts: Counts) -> Result<(), AllocError> {
-    for part in 0..counts.parts {
-        sheet.name(part)?;
-    }
-    Ok(())
-}
-
-fn write_elements(sheet: &mut SheetBytes, counts: Counts) -> Result<(), AllocError> {
-    sheet.element_record(0, counts.elements / 3)?;
-    for place in 1..counts.elements {
-        sheet.element_record(place, ELEMENTS[(place - 1) as usize % 3])?;
-    }
-    Ok(())
-}
-
-fn write_nodes(sheet: &mut SheetBytes, counts: Counts) -> Result<(), AllocError> {
-    for place in 0..counts.nodes {
-        sheet.node_record(place, NODES[place as usize % 4])?;
-    }
-    Ok(())
-}
-
-fn write_expressions(sheet: &mut SheetBytes, counts: Counts) -> Result<(), AllocError> {
-    for expression in 0..counts.expressions {
-        sheet.number(expression.saturating_mul(8))?;
-    }
-    Ok(())
-}
-
-/// The bytes of a good sheet, its sections one behind the other.
+/// The bytes of a good sheet, its sections one behind the other. Each root has four leaves, and each leaf two parts.
 pub(crate) fn made_sheet(heap: Global, counts: Counts) -> Result<Vec<u8>, AllocError> {
     let mut sheet = SheetBytes::new(heap);
     write_header(&mut sheet, counts)?;
-    write_names(&mut sheet, counts)?;
-    write_types(&mut sheet, counts)?;
-    write_roots(&mut sheet, counts)?;
-    write_leaves(&mut sheet, counts)?;
-    write_parts(&mut sheet, counts)?;
-    write_elements(&mut sheet, counts)?;
-    write_nodes(&mut sheet, counts)?;
-    write_expressions(&mut sheet, counts)?;
+    write_each(&mut sheet, counts.names, |sheet, place| {
+        sheet.byte(b'a' + (place % 26) as u8)
+    })?;
+    write_each(&mut sheet, counts.types, |sheet, place| {
+        sheet.type_record(place, TYPES[place as usize % 8])
+    })?;
+    write_each(&mut sheet, counts.roots, |sheet, root| {
+        sheet.number(root.saturating_mul(8))
+    })?;
+    write_each(&mut sheet, counts.leaves, |sheet, leaf| {
+        sheet.leaf_record(leaf / 4, leaf.saturating_mul(2), 2)
+    })?;
+    write_each(&mut sheet, counts.parts, |sheet, part| sheet.name(part))?;
+    sheet.element_record(0, counts.elements / 3)?;
+    write_each(
+        &mut sheet,
+        counts.elements.saturating_sub(1),
+        |sheet, place| {
+            sheet.element_record(place.saturating_add(1), ELEMENTS[place as usize % 3])
+        },
+    )?;
+    write_each(&mut sheet, counts.nodes, |sheet, place| {
+        sheet.node_record(place, NODES[place as usize % 4])
+    })?;
+    write_each(&mut sheet, counts.expressions, |sheet, expression| {
+        sheet.number(expression.saturating_mul(8))
+    })?;
     Ok(sheet.into_bytes())
 }

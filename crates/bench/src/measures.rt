@@ -21,10 +21,7 @@ impl fmt::Display for PerUnit {
 
 /// The sheet that the bytes hold.
 pub(crate) fn opened(heap: Global, bytes: &[u8]) -> anyhow::Result<Sheet> {
-    match open(bytes.to_vec(heap)?) {
-        Ok(sheet) => Ok(sheet),
-        Err(_) => Err(anyhow!("the sheet does not open")),
-    }
+    open(bytes.to_vec(heap)?).map_err(|_| anyhow!("the sheet does not open"))
 }
 
 // How long it takes to open a copy of the bytes, which is made before.
@@ -33,10 +30,8 @@ fn time_open(rt: &HostRuntime, bytes: &[u8]) -> anyhow::Result<Duration> {
     let start = Instant::now(rt)?;
     let result = open(copy);
     let time = start.elapsed(rt)?;
-    match result {
-        Ok(_) => Ok(time),
-        Err(_) => Err(anyhow!("the sheet does not open")),
-    }
+    let _sheet = result.map_err(|_| anyhow!("the sheet does not open"))?;
+    Ok(time)
 }
 
 /// How long it takes to open a sheet so often.

@@ -8,20 +8,13 @@ use std::time::{Duration, Instant};
 const NAME: &[u8] = b"abcdefgh";
 
 /// How many questions were asked, and what the answers add up to, so that none of them is idle.
-#[derive(Clone, Copy)]
+#[derive(Clone, Copy, Default)]
 struct Tally {
     questions: u32,
     sum: usize,
 }
 
 impl Tally {
-    fn new() -> Tally {
-        Tally {
-            questions: 0,
-            sum: 0,
-        }
-    }
-
     fn note(&mut self, answer: usize) {
         self.questions = self.questions.saturating_add(1);
         self.sum = self.sum.wrapping_add(answer);
@@ -61,7 +54,7 @@ pub(crate) fn time_questions<D: LeafDirectory>(
     directory: &D,
     rounds: u32,
 ) -> anyhow::Result<Timing> {
-    let mut tally = Tally::new();
+    let mut tally = Tally::default();
     let start = Instant::now(rt)?;
     for _ in 0..rounds {
         ask_all(directory, &mut tally);
@@ -78,7 +71,7 @@ pub(crate) fn time_questions<D: LeafDirectory>(
 
 /// How long a flattened directory takes to make, where it is made so often. It is asked afterwards.
 pub(crate) fn time_makings(rt: &HostRuntime, sheet: &Sheet, rounds: u32) -> anyhow::Result<Timing> {
-    let mut tally = Tally::new();
+    let mut tally = Tally::default();
     let mut time = Duration::ZERO;
     for _ in 0..rounds {
         let start = Instant::now(rt)?;

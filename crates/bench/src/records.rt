@@ -1,7 +1,7 @@
 //! Writes the records of a sheet.
 use std::alloc::{AllocError, Global};
 
-/// The fields of a type that differ within a group of types.
+/// The fields of a type that differ within a group of types. The kind is the layout's number, as it is written.
 #[derive(Clone, Copy)]
 pub(crate) struct TypeShape {
     pub kind: u8,
@@ -9,7 +9,7 @@ pub(crate) struct TypeShape {
     pub span: u16,
 }
 
-/// The fields of a node that differ within a group of nodes.
+/// The fields of a node that differ within a group of nodes. The kinds are the layout's numbers, as they are written.
 #[derive(Clone, Copy)]
 pub(crate) struct NodeShape {
     pub kind: u8,

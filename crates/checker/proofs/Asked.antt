@@ -1,10 +1,11 @@
 -- Whether a filter may ask an expression of a list, node by node. Assumes nothing.
-use Rattle.std.proofs.Common.{◌≡◌, ℕ, ◌+◌, ◌<◌, ◌≤◌, Bool, true, false, cond, ◌||◌, length, Some, None, Option, sym, refl, ap, ◌∙◌, arith}
-use Rattle.std.proofs.lemmas.Bool.{eqb-true}
+use Rattle.std.proofs.Common.{◌≡◌, ℕ, zero, suc, ◌+◌, ◌-◌, ◌<◌, Bool, true, false, ◌||◌, length, Some, None, Option, sym, refl, ap, ◌∙◌, subst, arith}
+use Rattle.std.proofs.lemmas.Bool.{eqb-true, both_ways}
+use Rattle.std.specs.List.{range_with_len, list_any}
 use Rattle.rules.specs.Names.{Name}
 use Rattle.rules.specs.Expressions.{Exprs, done, arg, has_list_predicate, have_list_predicate}
 use Rattle.format.specs.declared.kinds.NodeKind.{NodeKind}
-use Rattle.format.specs.declared.kinds.NodeKind.TheVariants.{Column, Literal, GetField, Cast, IsNull, IsNotNull, InputFileName, FileRowIndex, ScalarFunction, Operator}
+use Rattle.format.specs.declared.kinds.NodeKind.TheVariants.{Column, Literal, Cast, IsNull, IsNotNull}
 use Rattle.format.specs.declared.records.NodeRecord.{NodeRecord}
 use Rattle.format.specs.Kinds.{node_kind_of}
 use Rattle.format.specs.Records.{name_bytes}
@@ -24,7 +25,7 @@ module _ (s : Sheet) where
   abbrev by_record : NodeRecord → Bool
   by_record r = is_asked (node_kind_of r.kind) (name_bytes (names_in s) r.name)
 
-  abbrev asked : ℕ → Bool
+  abbrev pub asked : ℕ → Bool
   asked p = by_record (node_record_at s p)
 
   -- the node itself is asked, or one below it
@@ -39,32 +40,25 @@ module _ (s : Sheet) where
     Says o = has_list_predicate (by_node_kind s o (node_record_at s p) es) ≡ (is_asked o f || have_list_predicate es)
 
     says : (o : Option NodeKind) → node_kind_of (node_record_at s p).kind ≡ o → Says o
-    says None e = absurd (never (node_children_fit_lem s p h None e))
-      where
-        never : false ≡ true → ⊥
-        never e = let z : ◌≡◌ {A = ℕ} 0 1 = ap (λ b. cond b 1 0) e in omega arith
+    says None e = absurd (both_ways _ refl (node_children_fit_lem s p h None e))
     says (Some Column) e = sym (ap have_list_predicate (childless s p h (eqb-true _ _ (node_children_fit_lem s p h (Some Column) e))).1)
     says (Some Literal) e = sym (ap have_list_predicate (childless s p h (eqb-true _ _ (node_children_fit_lem s p h (Some Literal) e))).1)
-    says (Some GetField) e = refl
     says (Some Cast) e =
         let one = (single s p h (eqb-true _ _ (node_children_fit_lem s p h (Some Cast) e))).child in
         ap (λ w. has_list_predicate (by_node_kind s (Some Cast) (node_record_at s p) w)) one ∙ sym (ap have_list_predicate one ∙ or_none (has_list_predicate (expr_at s (p + 1))))
     says (Some IsNull) e = ap (λ w. has_list_predicate (by_node_kind s (Some IsNull) (node_record_at s p) w)) (single s p h (eqb-true _ _ (node_children_fit_lem s p h (Some IsNull) e))).child
     says (Some IsNotNull) e = ap (λ w. has_list_predicate (by_node_kind s (Some IsNotNull) (node_record_at s p) w)) (single s p h (eqb-true _ _ (node_children_fit_lem s p h (Some IsNotNull) e))).child
-    says (Some InputFileName) e = refl
-    says (Some FileRowIndex) e = refl
-    says (Some ScalarFunction) e = refl
-    says (Some Operator) e = refl
+    says _ e = refl
 
     pub node_asked : has_list_predicate (expr_at s p) ≡ (asked p || have_list_predicate es)
     node_asked = ap has_list_predicate (node_is s p h (node_kind_of (node_record_at s p).kind) refl) ∙ says (node_kind_of (node_record_at s p).kind) refl
 
   -- what is left decides
-  pub record Asking (whole : Bool) (p e : ℕ) : Type 0 where
+  record Asking (whole : Bool) (p e : ℕ) : Type 0 where
     pub rest : Left s p e
     pub same : have_list_predicate (left s p e rest) ≡ whole
 
-  pub ask_start : (p : ℕ) → p < length (nodes_in s) → Asking (has_list_predicate (expr_at s p)) p (p + node_span s p)
+  ask_start : (p : ℕ) → p < length (nodes_in s) → Asking (has_list_predicate (expr_at s p)) p (p + node_span s p)
   ask_start p h = record { rest = alone s p h; same = ap have_list_predicate (alone_is s p h) ∙ or_none (has_list_predicate (expr_at s p)) }
 
   ask_hit : (whole : Bool) (p e : ℕ) → p < e → Asking whole p e → asked p ≡ true → true ≡ whole
@@ -85,13 +79,14 @@ module _ (s : Sheet) where
             ∙ sym (sym a.same ∙ ap have_list_predicate st.here ∙ ap (λ b. b || have_list_predicate after) (node_asked p there ∙ ap (λ b. b || have_list_predicate kids) miss));
       }
 
-  -- by the record that was read
-  module _ (whole : Bool) (p e : ℕ) (h : p < e) (a : Asking whole p e) (read : NodeRecord) (is : read ≡ node_record_at s p) where
-    pub ask_here : true ≡ by_record read → true ≡ whole
-    ask_here hit = ask_hit whole p e h a (sym (hit ∙ ap by_record is))
+  -- the places that are left, asked one by one
+  asks : (whole : Bool) (n p : ℕ) → Asking whole p (p + n) → list_any asked (range_with_len p n) ≡ whole
+  asks whole zero p a = sym (ap have_list_predicate (over_none s p (p + 0) (omega arith) a.rest)) ∙ a.same
+  asks whole (suc n) p a = go _ (asked p) refl (λ miss. asks whole n (p + 1) (subst (Asking whole (p + 1)) (omega arith) (ask_miss whole p (p + suc n) (omega arith) a miss)))
+    where
+      go : (rest b : Bool) → asked p ≡ b → (asked p ≡ false → rest ≡ whole) → (b || rest) ≡ whole
+      go rest true hit later = ask_hit whole p (p + suc n) (omega arith) a hit
+      go rest false miss later = later miss
 
-    pub ask_on : false ≡ by_record read → Asking whole (p + 1) e
-    ask_on miss = ask_miss whole p e h a (sym (miss ∙ ap by_record is))
-
-  pub ask_over : (whole : Bool) (p e : ℕ) → e ≤ p → Asking whole p e → false ≡ whole
-  ask_over whole p e h a = sym (ap have_list_predicate (over_none s p e h a.rest)) ∙ a.same
+  pub asks_all : (p : ℕ) → p < length (nodes_in s) → list_any asked (range_with_len p (p + node_span s p - p)) ≡ has_list_predicate (expr_at s p)
+  asks_all p h = asks (has_list_predicate (expr_at s p)) _ p (subst (Asking (has_list_predicate (expr_at s p)) p) (omega arith) (ask_start p h))

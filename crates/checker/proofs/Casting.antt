@@ -1,20 +1,22 @@
 -- What a cast comes to, by its argument. Assumes nothing.
-use Rattle.std.proofs.Common.{◌≡◌, ℕ, ◌+◌, ◌<◌, Bool, true, false, cond, ◌&&◌, List, [], ◌∷◌, length, get_or, Some, None, Option, sym, refl, ap, ◌∙◌, subst, append-nil, arith}
+use Rattle.std.proofs.Common.{◌≡◌, ℕ, ◌+◌, ◌<◌, Bool, true, false, cond, ◌&&◌, List, [], ◌∷◌, length, Some, None, Option, sym, refl, ap, ◌∙◌, subst, append-nil, arith}
 use Rattle.std.proofs.lemmas.Bool.{ltb-true, eqb-true}
+use Rattle.std.specs.Bool.{then_some}
 use Rattle.rules.specs.Names.{Name}
 use Rattle.rules.specs.Types.{Ty, File, first_named, type_at}
 use Rattle.rules.specs.Expressions.{Expr, cast, name_of_column}
 use Rattle.rules.specs.Findings.{Finding, through, is_nested_cast, cast_on, cast_step, findings, findings_in}
 use Rattle.format.specs.declared.kinds.NodeKind.TheVariants.{Cast}
-use Rattle.format.specs.Records.{no_root}
 use Rattle.sheet.specs.declared.sheet.Sheet.{Sheet}
-use Rattle.sheet.specs.Seen.{types_in, roots_in, nodes_in}
+use Rattle.sheet.specs.Seen.{types_in, nodes_in}
 use Rattle.sheet.specs.SheetTrees.{file_in}
 use Rattle.sheet.specs.SheetExpressions.{expr_at, type_at_place, of_one}
-use Rattle.sheet.proofs.Sheets.{type_count_lem, root_place}
+use Rattle.sheet.proofs.Sheets.{type_count_lem}
 use Rattle.sheet.proofs.NodeReaders.{node_record_at, node_is, node_fields_fit_lem, node_children_fit_lem, single, Single}
-use Rattle.checker.specs.Visits.{kind_at, arguments_of}
-use Rattle.checker.proofs.Rooted.{named_low, root_type}
+use Rattle.checker.specs.declared.state.PushdownChecker.{PushdownChecker}
+use Rattle.checker.specs.Settings.{sheet_of}
+use Rattle.checker.specs.Visits.{kind_at, arguments_of, Recorded}
+use Rattle.checker.proofs.Rooted.{named_low}
 
 module _ (file : File) (lists casts : Bool) (g : Ty) where
   no_cast_on : casts ≡ false → (o : Option ℕ) (inside : List Finding) → cast_on file lists casts g o inside ≡ inside
@@ -26,7 +28,16 @@ module _ (file : File) (lists casts : Bool) (g : Ty) where
   no_cast off (Some name) inside = no_cast_on off (first_named name 0 file) inside
 
 -- a cast at a place
-module _ (s : Sheet) (lists casts : Bool) (p : ℕ) (h : p < length (nodes_in s)) (kind : kind_at s p ≡ Some Cast) where
+module _ (k : PushdownChecker) (p : ℕ) (h : p < length (nodes_in (sheet_of k))) (kind : kind_at (sheet_of k) p ≡ Some Cast) where
+  abbrev s : Sheet
+  s = sheet_of k
+
+  abbrev lists : Bool
+  lists = k.allow_list_columns
+
+  abbrev casts : Bool
+  casts = k.collect_cast_accesses
+
   abbrev g : Ty
   g = type_at_place s (node_record_at s p).type_place
 
@@ -66,24 +77,22 @@ module _ (s : Sheet) (lists casts : Bool) (p : ℕ) (h : p < length (nodes_in s)
     cast_unknown n = through_none (step_is ∙ ap (λ o. cast_on (file_in s) lists casts g o (findings (file_in s) lists casts e)) n)
 
     module _ (j : ℕ) (root : first_named name 0 (file_in s) ≡ Some j) where
-      pub cast_root : j < length (roots_in s)
-      cast_root = named_low s name j root
-
-      pub cast_from : (get_or (roots_in s) j no_root).type_place < length (types_in s)
-      cast_from = root_place s j cast_root
-
-      on_is : (b : Bool) → (casts && is_nested_cast (type_at_place s (get_or (roots_in s) j no_root).type_place) g) ≡ b → cast_step (file_in s) lists casts g (name_of_column e) (findings (file_in s) lists casts e) ≡ cond b (through j g ∷ []) (findings (file_in s) lists casts e)
+      on_is : (b : Bool) → (casts && is_nested_cast (type_at (file_in s) j) g) ≡ b → cast_step (file_in s) lists casts g (name_of_column e) (findings (file_in s) lists casts e) ≡ cond b (through j g ∷ []) (findings (file_in s) lists casts e)
       on_is b q =
           step_is ∙ ap (λ o. cast_on (file_in s) lists casts g o (findings (file_in s) lists casts e)) root
-          ∙ ap (λ u. cond (casts && is_nested_cast u g) (through j g ∷ []) (findings (file_in s) lists casts e)) (root_type s j cast_root)
           ∙ ap (λ x. cond x (through j g ∷ []) (findings (file_in s) lists casts e)) q
 
-      pub cast_plain : is_nested_cast (type_at_place s (get_or (roots_in s) j no_root).type_place) g ≡ false → Same
+      pub cast_plain : is_nested_cast (type_at (file_in s) j) g ≡ false → Same
       cast_plain q = through_none (on_is false (ap (λ b. casts && b) q ∙ none casts))
         where
           none : (b : Bool) → (b && false) ≡ false
           none true = refl
           none false = refl
 
-      pub cast_nested : casts ≡ true → is_nested_cast (type_at_place s (get_or (roots_in s) j no_root).type_place) g ≡ true → findings (file_in s) lists casts (expr_at s p) ≡ through j g ∷ []
-      cast_nested on q = ap (findings (file_in s) lists casts) it ∙ on_is true (ap (λ b. b && is_nested_cast (type_at_place s (get_or (roots_in s) j no_root).type_place) g) on ∙ q)
+      pub cast_nested : casts ≡ true → is_nested_cast (type_at (file_in s) j) g ≡ true → findings (file_in s) lists casts (expr_at s p) ≡ through j g ∷ []
+      cast_nested on q = ap (findings (file_in s) lists casts) it ∙ on_is true (ap (λ b. b && is_nested_cast (type_at (file_in s) j) g) on ∙ q)
+
+  -- the root that is told, by whether the cast is nested
+  pub cast_told : casts ≡ true → (name : Name) → name_of_column e ≡ Some name → (j : ℕ) → first_named name 0 (file_in s) ≡ Some j → (b : Bool) → b ≡ is_nested_cast (type_at (file_in s) j) g → Recorded k p (then_some b j)
+  cast_told on name named j root true e = (named_low s name j root, cast_nested name named j root on (sym e))
+  cast_told on name named j root false e = cast_plain name named j root (sym e)

@@ -18,24 +18,16 @@ use Rattle.checker.proofs.Rooted.{named_low}
 -- accesses and casts are those that were found, in order
 accesses_behind : (n : Notes) (fs : List Finding) → (noted n fs).accesses ≡ n.accesses ++ map Some (accesses_of fs)
 accesses_behind n [] = sym (append-nil n.accesses)
-accesses_behind n (required j ∷ fs) = accesses_behind (note n (required j)) fs
 accesses_behind n (accessed j p ∷ fs) = accesses_behind (note n (accessed j p)) fs ∙ append_assoc n.accesses (Some (j, p) ∷ []) (map Some (accesses_of fs))
-accesses_behind n (through j g ∷ fs) = accesses_behind (note n (through j g)) fs
-accesses_behind n (unknown ∷ fs) = accesses_behind (note n unknown) fs
-accesses_behind n (unsupported ∷ fs) = accesses_behind (note n unsupported) fs
-accesses_behind n (unpushable ∷ fs) = accesses_behind (note n unpushable) fs
+accesses_behind n (f ∷ fs) = accesses_behind (note n f) fs
 
 pub accesses_collected : (fs : List Finding) → (noted no_notes fs).accesses ≡ map Some (accesses_of fs)
 accesses_collected fs = accesses_behind no_notes fs
 
 casts_behind : (n : Notes) (fs : List Finding) → (noted n fs).casts ≡ n.casts ++ map Some (casts_of fs)
 casts_behind n [] = sym (append-nil n.casts)
-casts_behind n (required j ∷ fs) = casts_behind (note n (required j)) fs
-casts_behind n (accessed j p ∷ fs) = casts_behind (note n (accessed j p)) fs
 casts_behind n (through j g ∷ fs) = casts_behind (note n (through j g)) fs ∙ append_assoc n.casts (Some (j, g) ∷ []) (map Some (casts_of fs))
-casts_behind n (unknown ∷ fs) = casts_behind (note n unknown) fs
-casts_behind n (unsupported ∷ fs) = casts_behind (note n unsupported) fs
-casts_behind n (unpushable ∷ fs) = casts_behind (note n unpushable) fs
+casts_behind n (f ∷ fs) = casts_behind (note n f) fs
 
 pub casts_collected : (fs : List Finding) → (noted no_notes fs).casts ≡ map Some (casts_of fs)
 casts_collected fs = casts_behind no_notes fs
@@ -43,21 +35,17 @@ casts_collected fs = casts_behind no_notes fs
 -- once kept back, always
 kept_on : (n : Notes) (fs : List Finding) → is_kept_back n ≡ true → is_kept_back (noted n fs) ≡ true
 kept_on n [] h = h
-kept_on n (required j ∷ fs) h = kept_on (note n (required j)) fs h
-kept_on n (accessed j p ∷ fs) h = kept_on (note n (accessed j p)) fs h
-kept_on n (through j g ∷ fs) h = kept_on (note n (through j g)) fs h
 kept_on n (unknown ∷ fs) h = kept_on (note n unknown) fs (or_right n.unsupporteds true refl)
 kept_on n (unsupported ∷ fs) h = kept_on (note n unsupported) fs refl
 kept_on n (unpushable ∷ fs) h = kept_on (note n unpushable) fs (or_right n.unsupporteds (n.unknowns || true) (or_right n.unknowns true refl))
+kept_on n (f ∷ fs) h = kept_on (note n f) fs h
 
 flags_behind : (n : Notes) (fs : List Finding) → is_kept_back n ≡ false → is_kept_back (noted n fs) ≡ is_flagged fs
 flags_behind n [] h = h
-flags_behind n (required j ∷ fs) h = flags_behind (note n (required j)) fs h
-flags_behind n (accessed j p ∷ fs) h = flags_behind (note n (accessed j p)) fs h
-flags_behind n (through j g ∷ fs) h = flags_behind (note n (through j g)) fs h
 flags_behind n (unknown ∷ fs) h = kept_on (note n unknown) fs (or_right n.unsupporteds true refl)
 flags_behind n (unsupported ∷ fs) h = kept_on (note n unsupported) fs refl
 flags_behind n (unpushable ∷ fs) h = kept_on (note n unpushable) fs (or_right n.unsupporteds (n.unknowns || true) (or_right n.unknowns true refl))
+flags_behind n (f ∷ fs) h = flags_behind (note n f) fs h
 
 pub flags_collected : (fs : List Finding) → is_kept_back (noted no_notes fs) ≡ is_flagged fs
 flags_collected fs = flags_behind no_notes fs refl
@@ -99,11 +87,7 @@ roots_behind n (required i ∷ fs) sized low j =
     roots_behind (note n (required i)) fs (length-set n.roots i true ∙ sized) (λ m e. low m (or_right (eqb i m) (is_listed (required_of fs) m) e)) j
     ∙ ap (λ b. b || is_listed (required_of fs) j) (flag_set n.roots i j (omega (arith, sized, below)))
     ∙ or_assoc (get_or n.roots j false) (eqb i j) (is_listed (required_of fs) j)
-roots_behind n (accessed i p ∷ fs) sized low j = roots_behind (note n (accessed i p)) fs sized low j
-roots_behind n (through i g ∷ fs) sized low j = roots_behind (note n (through i g)) fs sized low j
-roots_behind n (unknown ∷ fs) sized low j = roots_behind (note n unknown) fs sized low j
-roots_behind n (unsupported ∷ fs) sized low j = roots_behind (note n unsupported) fs sized low j
-roots_behind n (unpushable ∷ fs) sized low j = roots_behind (note n unpushable) fs sized low j
+roots_behind n (f ∷ fs) sized low j = roots_behind (note n f) fs sized low j
 
 unset : (j : ℕ) → get_or (replicate 256 false) j false ≡ false
 unset j = elim (cases_lt j 256) [
@@ -124,11 +108,7 @@ below_append limit (required i ∷ fs) gs f g = λ j e. elim (or_cases (eqb i j)
   | inl q ↦ f j (or_left (eqb i j) (is_listed (required_of fs) j) q)
   | inr q ↦ below_append limit fs gs (λ m d. f m (or_right (eqb i m) (is_listed (required_of fs) m) d)) g j q
 ]
-below_append limit (accessed i p ∷ fs) gs f g = below_append limit fs gs f g
-below_append limit (through i t ∷ fs) gs f g = below_append limit fs gs f g
-below_append limit (unknown ∷ fs) gs f g = below_append limit fs gs f g
-below_append limit (unsupported ∷ fs) gs f g = below_append limit fs gs f g
-below_append limit (unpushable ∷ fs) gs f g = below_append limit fs gs f g
+below_append limit (_ ∷ fs) gs f g = below_append limit fs gs f g
 
 module _ (s : Sheet) (lists casts : Bool) where
   abbrev file : File

@@ -6,9 +6,9 @@ use Rattle.rules.specs.Types.{Ty, File, first_named, type_at, is_nested}
 use Rattle.rules.specs.Trees.{Tree, node, Forest, none, more, size, sizes}
 use Rattle.rules.specs.Preorder.{Spanned}
 use Rattle.rules.specs.Expressions.{Exprs, name_of_column, path_of}
-use Rattle.rules.specs.Findings.{Finding, required, accessed, through, unknown, unsupported, unpushable, is_supported, is_map_root, is_nested_cast, step_on, access_on, path_step, get_field_step, cast_on, cast_step, findings, findings_in}
+use Rattle.rules.specs.Findings.{Finding, accessed, through, unsupported, is_supported, is_map_root, is_nested_cast, step_on, access_on, path_step, get_field_step, cast_on, cast_step, findings, findings_in}
 use Rattle.format.specs.declared.kinds.NodeKind.{NodeKind}
-use Rattle.format.specs.declared.kinds.NodeKind.TheVariants.{Column, Literal, GetField, Cast, IsNull, IsNotNull, InputFileName, FileRowIndex, ScalarFunction, Operator}
+use Rattle.format.specs.declared.kinds.NodeKind.TheVariants.{Column, GetField, Cast, IsNull, IsNotNull, ScalarFunction, Operator}
 use Rattle.format.specs.declared.records.NodeRecord.{NodeRecord}
 use Rattle.format.specs.Kinds.{node_kind_of}
 use Rattle.format.specs.Records.{name_bytes}
@@ -23,12 +23,9 @@ use Rattle.checker.specs.Notes.{Notes, note, noted}
 -- how many accesses and casts are found
 abbrev pub recorded : List Finding → ℕ
 recorded [] = 0
-recorded (required j ∷ fs) = recorded fs
 recorded (accessed j p ∷ fs) = suc (recorded fs)
 recorded (through j g ∷ fs) = suc (recorded fs)
-recorded (unknown ∷ fs) = recorded fs
-recorded (unsupported ∷ fs) = recorded fs
-recorded (unpushable ∷ fs) = recorded fs
+recorded (_ ∷ fs) = recorded fs
 
 abbrev pub total : Notes → ℕ
 total n = length n.accesses + length n.casts
@@ -36,21 +33,15 @@ total n = length n.accesses + length n.casts
 -- they are noted one by one
 pub total_noted : (n : Notes) (fs : List Finding) → total (noted n fs) ≡ total n + recorded fs
 total_noted n [] = omega arith
-total_noted n (required j ∷ fs) = total_noted (note n (required j)) fs
 total_noted n (accessed j p ∷ fs) = omega (arith, total_noted (note n (accessed j p)) fs, length_push n.accesses (Some (j, p)))
 total_noted n (through j g ∷ fs) = omega (arith, total_noted (note n (through j g)) fs, length_push n.casts (Some (j, g)))
-total_noted n (unknown ∷ fs) = total_noted (note n unknown) fs
-total_noted n (unsupported ∷ fs) = total_noted (note n unsupported) fs
-total_noted n (unpushable ∷ fs) = total_noted (note n unpushable) fs
+total_noted n (f ∷ fs) = total_noted (note n f) fs
 
 recorded_append : (fs gs : List Finding) → recorded (fs ++ gs) ≡ recorded fs + recorded gs
 recorded_append [] gs = omega arith
-recorded_append (required j ∷ fs) gs = recorded_append fs gs
 recorded_append (accessed j p ∷ fs) gs = omega (arith, recorded_append fs gs)
 recorded_append (through j g ∷ fs) gs = omega (arith, recorded_append fs gs)
-recorded_append (unknown ∷ fs) gs = recorded_append fs gs
-recorded_append (unsupported ∷ fs) gs = recorded_append fs gs
-recorded_append (unpushable ∷ fs) gs = recorded_append fs gs
+recorded_append (_ ∷ fs) gs = recorded_append fs gs
 
 module _ (file : File) (lists casts : Bool) where
   -- a column by itself is not recorded, and one along a path once
@@ -101,9 +92,7 @@ module _ (file : File) (lists casts : Bool) where
 
     -- one node, with what is below it
     kind_few : (o : Option NodeKind) (r : NodeRecord) (f : Forest NodeRecord) → Fews f → (firsts : (t : Tree NodeRecord) (g : Forest NodeRecord) → f ≡ more t g → Few t) → 2 * recorded (findings file lists casts (by_node_kind s o r (exprs_of s f))) ≤ suc (sizes f)
-    kind_few None r f h firsts = omega arith
     kind_few (Some Column) r f h firsts = omega (arith, on_none (first_named (name_bytes (names_in s) r.name) 0 file))
-    kind_few (Some Literal) r f h firsts = omega arith
     kind_few (Some GetField) r none h firsts = omega arith
     kind_few (Some GetField) r (more t f) h firsts = field_few (type_at_place s r.type_place) (name_of_column (expr_of s t)) (exprs_of s f) (findings_in file lists casts (exprs_of s (more t f))) (suc (sizes (more t f))) (omega (arith, size_some t)) (omega (arith, h))
     kind_few (Some Cast) r none h firsts = omega arith
@@ -112,10 +101,9 @@ module _ (file : File) (lists casts : Bool) where
     kind_few (Some IsNull) r (more t f) h firsts = omega (arith, firsts t f refl)
     kind_few (Some IsNotNull) r none h firsts = omega arith
     kind_few (Some IsNotNull) r (more t f) h firsts = omega (arith, firsts t f refl)
-    kind_few (Some InputFileName) r f h firsts = omega arith
-    kind_few (Some FileRowIndex) r f h firsts = omega arith
     kind_few (Some ScalarFunction) r f h firsts = omega (arith, h)
     kind_few (Some Operator) r f h firsts = omega (arith, h)
+    kind_few _ r f h firsts = omega arith
 
     mutual
       tree_few : (t : Tree NodeRecord) → Few t

@@ -1,9 +1,12 @@
 -- What get_field comes to, by its first argument. Assumes nothing.
 use Rattle.std.proofs.Common.{◌≡◌, ℕ, zero, suc, ◌+◌, ◌<◌, Bool, true, false, cond, not, ◌&&◌, ◌||◌, List, length, Some, None, sym, refl, ap, ◌∙◌, subst, arith}
 use Rattle.std.proofs.lemmas.Bool.{ltb-true}
+use Rattle.std.specs.Bool.{then_some}
+use Rattle.std.specs.Option.{option_map}
+use denote.Ref.{Bor}
 use Rattle.rules.specs.Names.{Name}
 use Rattle.rules.specs.Types.{Ty, File, first_named, is_nested}
-use Rattle.rules.specs.Expressions.{Expr, column, literal, get_field, cast, is_null, is_not_null, input_file_name, file_row_index, scalar_function, operator, Exprs, done, arg, is_column, name_of_column, path_of}
+use Rattle.rules.specs.Expressions.{Expr, column, get_field, Exprs, done, arg, is_column, name_of_column, path_of}
 use Rattle.rules.specs.Findings.{Finding, is_supported, is_map_root, path_step, get_field_step, findings, findings_in}
 use Rattle.format.specs.declared.kinds.NodeKind.TheVariants.{GetField}
 use Rattle.sheet.specs.declared.sheet.Sheet.{Sheet}
@@ -14,20 +17,14 @@ use Rattle.sheet.proofs.Sheets.{type_count_lem}
 use Rattle.sheet.proofs.NodeReaders.{node_record_at, node_span, exprs_at, node_is, node_fields_fit_lem, node_children_fill, node_span_within}
 use Rattle.rules.proofs.Rows.{fills_next}
 use Rattle.rules.specs.Preorder.{fills}
-use Rattle.checker.specs.Visits.{kind_at, arguments_of, first_is_column, behind_first}
+use Rattle.checker.specs.declared.state.PushdownChecker.{PushdownChecker}
+use Rattle.checker.specs.Settings.{sheet_of, follows}
+use Rattle.checker.specs.Visits.{kind_at, Accessed, arguments_of, first_is_column, behind_first}
 use Rattle.checker.proofs.Places.{Left, left, step}
 
 named_column : (e : Expr) (name : Name) → name_of_column e ≡ Some name → is_column e ≡ true
 named_column (column n i) name h = refl
-named_column (literal l) name h = cc
-named_column (get_field t es) name h = cc
-named_column (cast g e) name h = cc
-named_column (is_null e) name h = cc
-named_column (is_not_null e) name h = cc
-named_column (input_file_name es) name h = cc
-named_column (file_row_index es) name h = cc
-named_column (scalar_function f es) name h = cc
-named_column (operator f es) name h = cc
+named_column _ name h = cc
 
 module _ (file : File) (lists casts : Bool) (t : Ty) where
   abbrev Below : Expr → Type 0
@@ -66,7 +63,16 @@ fills_wide span zero p e f some = absurd (some refl)
 fills_wide span (suc n) p e f some = (fills_next span n p e f).0
 
 -- get_field at a place
-module _ (s : Sheet) (lists casts : Bool) (p : ℕ) (h : p < length (nodes_in s)) (kind : kind_at s p ≡ Some GetField) where
+module _ (k : PushdownChecker) (p : ℕ) (h : p < length (nodes_in (sheet_of k))) (kind : kind_at (sheet_of k) p ≡ Some GetField) where
+  abbrev s : Sheet
+  s = sheet_of k
+
+  abbrev lists : Bool
+  lists = k.allow_list_columns
+
+  abbrev casts : Bool
+  casts = k.collect_cast_accesses
+
   abbrev es : Exprs
   es = exprs_at s (node_record_at s p).children (p + 1)
 
@@ -81,9 +87,6 @@ module _ (s : Sheet) (lists casts : Bool) (p : ℕ) (h : p < length (nodes_in s)
 
   pub field_type : (node_record_at s p).type_place < length (types_in s)
   field_type = let low = ltb-true _ _ (node_fields_fit_lem s p h (Some GetField) kind) in omega (arith, low, type_count_lem s)
-
-  pub field_childless : (node_record_at s p).children ≡ 0 → Same
-  field_childless n = field_of_none (file_in s) lists casts t (expr_at s p) es it (ap (λ m. exprs_at s m (p + 1)) n)
 
   module _ (some : (node_record_at s p).children ≡ 0 → ⊥) where
     abbrev all : Left s (p + 1) (p + node_span s p)
@@ -110,3 +113,8 @@ module _ (s : Sheet) (lists casts : Bool) (p : ℕ) (h : p < length (nodes_in s)
 
       pub field_path : follow (file_in s) lists casts t name ≡ true → (first_is_column (arguments_of (expr_at s p)) ≡ true) × (findings (file_in s) lists casts (expr_at s p) ≡ path_step (file_in s) lists casts name (path_of (behind_first (arguments_of (expr_at s p)))))
       field_path = field_followed (file_in s) lists casts t (expr_at s p) es it (expr_at s (p + 1)) fs are name named
+
+    -- the name that is told, by whether its path is followed
+    pub field_told : (name : Bor Name) → name_of_column (expr_at s (p + 1)) ≡ Some name.now → (b : Bool) → b ≡ follows k name.now t → Accessed k p (option_map (λ x. x.now) (then_some b name))
+    field_told name named true e = field_path name.now named (sym e)
+    field_told name named false e = field_whole name.now named (sym e)

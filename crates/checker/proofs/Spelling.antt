@@ -1,21 +1,20 @@
 -- The path that text literals spell, one after the other. Assumes nothing.
-use Rattle.std.proofs.Common.{◌≡◌, ℕ, ◌+◌, ◌-◌, ◌<◌, ◌≤◌, Bool, true, false, List, [], ◌∷◌, ◌++◌, map, length, Some, None, Option, sym, refl, ap, ◌∙◌, subst, inl, inr, append_assoc, append-nil, arith}
+use Rattle.std.proofs.Common.{◌≡◌, ℕ, zero, suc, ◌+◌, ◌-◌, ◌<◌, ◌≤◌, Bool, true, false, ◌&&◌, List, [], ◌∷◌, ◌++◌, map, length, Some, None, Option, sym, refl, ap, ◌∙◌, subst, inl, inr, append_assoc, append-nil, arith}
 use Rattle.std.proofs.lemmas.List.{map_push}
 use Rattle.std.proofs.lemmas.Bool.{both_ways, cases_lt}
-use Rattle.std.specs.List.{range_with_len}
+use Rattle.std.specs.Bool.{then_some}
+use Rattle.std.specs.List.{range_with_len, list_all}
 use Rattle.std.specs.Option.{option_map}
 use Rattle.rules.specs.Names.{Name}
 use Rattle.rules.specs.Preorder.{fills}
 use Rattle.rules.specs.Expressions.{Exprs, before, path_of}
 use Rattle.rules.proofs.Written.{counting_more}
-use Rattle.format.specs.Kinds.{node_kind_of, literal_kind_of}
 use Rattle.sheet.specs.declared.sheet.Sheet.{Sheet}
 use Rattle.sheet.specs.Seen.{nodes_in}
 use Rattle.sheet.specs.SheetExpressions.{expr_at}
 use Rattle.sheet.proofs.NodeReaders.{node_record_at, node_span, exprs_at, node_children_fill, node_span_within}
 use Rattle.access.specs.Accesses.{node_name}
-use Rattle.checker.specs.Predicates.{is_text_literal}
-use Rattle.checker.specs.Visits.{arguments_of, first_is_column, behind_first, texts_at, Spelt}
+use Rattle.checker.specs.Visits.{is_text_at, arguments_of, first_is_column, behind_first, texts_at, Spelt}
 use Rattle.checker.proofs.Places.{Left, left, step, over_none}
 use Rattle.checker.proofs.NodeTests.{arguments_are, column_span, text_yes, text_no}
 
@@ -33,7 +32,7 @@ onto_nil (Some q) = refl
 
 module _ (s : Sheet) where
   -- the texts from first on were spelt, and the arguments that are left go on
-  pub record Spelling (es : Exprs) (first at end : ℕ) : Type 0 where
+  record Spelling (es : Exprs) (first at end : ℕ) : Type 0 where
     pub seen : ℕ
     pub stands : at ≡ first + seen
     pub rest : Left s at end
@@ -57,7 +56,7 @@ module _ (s : Sheet) where
       | inr g ↦ absurd (both_ways _ (ap first_is_column (arguments_are s p h ∙ over_none s (p + 1) end g all)) column)
     ]
 
-    pub spell_start : Spelling (behind_first (arguments_of (expr_at s p))) (p + 2) (p + 2) end
+    spell_start : Spelling (behind_first (arguments_of (expr_at s p))) (p + 2) (p + 2) end
     spell_start =
         let st = step s (p + 1) end some all in
         let there : p + 1 < length (nodes_in s) = omega (arith, node_span_within s p h, some) in
@@ -75,10 +74,7 @@ module _ (s : Sheet) where
     spell_room = omega (arith, some)
 
   module _ (es : Exprs) (first at end : ℕ) (g : Spelling es first at end) where
-    abbrev is_text_at : ℕ → Bool
-    is_text_at p = is_text_literal (node_kind_of (node_record_at s p).kind) (literal_kind_of (node_record_at s p).literal_kind)
-
-    pub spell_on : at < end → is_text_at at ≡ true → Spelling es first (at + 1) end
+    spell_on : at < end → is_text_at s at ≡ true → Spelling es first (at + 1) end
     spell_on h t =
         let st = step s at end h g.rest in
         let there : at < length (nodes_in s) = omega (arith, g.rest.within) in
@@ -96,15 +92,25 @@ module _ (s : Sheet) where
               ∙ (λ k. onto (sym more k) (path_of (sym m.1 k)));
         }
 
-    pub spell_stop : at < end → is_text_at at ≡ false → path_of es ≡ None
+    spell_stop : at < end → is_text_at s at ≡ false → path_of es ≡ None
     spell_stop h t =
         let st = step s at end h g.rest in
         let there : at < length (nodes_in s) = omega (arith, g.rest.within) in
         let xs = texts_at s first g.seen in
         g.same ∙ ap (λ w. onto xs (path_of w)) st.here ∙ ap (λ o. onto xs (before o (path_of (left s (at + node_span s at) end st.over)))) (text_no s at there t)
 
-    pub spell_end : end ≤ at → at ≤ end → Spelt s first es (Some (end - first))
-    spell_end h l =
-        let n : g.seen ≡ end - first = omega (arith, g.stands) in
-        let all : path_of es ≡ Some (texts_at s first g.seen) = g.same ∙ ap (λ w. onto (texts_at s first g.seen) (path_of w)) (over_none s at end h g.rest) ∙ ap Some (append-nil (texts_at s first g.seen)) in
-        (omega (arith, g.rest.within, g.stands), all ∙ ap (λ k. Some (texts_at s first k)) n)
+  -- the places that are left, told one by one
+  spells : (es : Exprs) (first last n at : ℕ) → at + n ≡ last → first ≤ last → Spelling es first at last → Spelt s first es (then_some (list_all (is_text_at s) (range_with_len at n)) (last - first))
+  spells es first last zero at e low g =
+      let seen : g.seen ≡ last - first = omega (arith, g.stands) in
+      let all : path_of es ≡ Some (texts_at s first g.seen) = g.same ∙ ap (λ w. onto (texts_at s first g.seen) (path_of w)) (over_none s at last (omega arith) g.rest) ∙ ap Some (append-nil (texts_at s first g.seen)) in
+      (omega (arith, g.rest.within, g.stands), all ∙ ap (λ k. Some (texts_at s first k)) seen)
+  spells es first last (suc n) at e low g = go _ (is_text_at s at) refl (λ t. spells es first last n (at + 1) (omega arith) low (spell_on es first at last g (omega arith) t))
+    where
+      go : (rest b : Bool) → is_text_at s at ≡ b → (is_text_at s at ≡ true → Spelt s first es (then_some rest (last - first))) → Spelt s first es (then_some (b && rest) (last - first))
+      go rest true t later = later t
+      go rest false t later = spell_stop es first at last g (omega arith) t
+
+  pub spells_all : (p : ℕ) → p < length (nodes_in s) → first_is_column (arguments_of (expr_at s p)) ≡ true
+      → Spelt s (p + 2) (behind_first (arguments_of (expr_at s p))) (then_some (list_all (is_text_at s) (range_with_len (p + 2) (p + node_span s p - (p + 2)))) (p + node_span s p - (p + 2)))
+  spells_all p h column = let room = spell_room p h column in spells _ (p + 2) (p + node_span s p) _ (p + 2) (omega (arith, room)) room (spell_start p h column)

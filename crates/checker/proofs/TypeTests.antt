@@ -1,68 +1,86 @@
 -- Tests of types, by their kinds. Assumes nothing.
-use Rattle.std.proofs.Common.{◌≡◌, ℕ, ◌<◌, true, length, sym, refl, ap, ◌∙◌}
-use Rattle.rules.specs.Types.{Wrapper, list, large_list, list_view, large_list_view, fixed_size_list, map, wrapper_kind, is_nested, is_map, is_map_wrapper, is_list, is_list_wrapper}
+use Rattle.std.proofs.Common.{◌≡◌, ℕ, ◌<◌, ◌⊎◌, inl, inr, Bool, true, false, length, Some, None, Option, sym, refl, ap, ◌∙◌, subst}
+use Rattle.rules.specs.Types.{Wrapper, list, large_list, list_view, large_list_view, fixed_size_list, map, wrapper_kind, Ty, is_nested, is_map, is_map_wrapper, is_list, is_list_wrapper}
+use Rattle.format.specs.declared.kinds.TypeKind.{TypeKind}
+use Rattle.format.specs.declared.kinds.TypeKind.TheVariants.{Leaf, List, LargeList, FixedSizeList, Map}
 use Rattle.format.specs.Kinds.{type_kind_of}
-use Rattle.sheet.specs.declared.sheet.Sheet.{Sheet}
 use Rattle.sheet.specs.Seen.{types_in}
 use Rattle.sheet.specs.SheetExpressions.{type_at_place}
-use Rattle.format.specs.declared.records.TypeRecord.{TypeRecord}
-use Rattle.checker.specs.TypeKinds.{nested_kind, map_kind, list_kind}
+use Rattle.sheet.specs.declared.sheet.Sheet.{Sheet}
 use Rattle.sheet.proofs.Readers.{type_record_at, is_leaf, is_struct, is_wrap, type_view}
 
-nested_wraps : (w : Wrapper) → true ≡ nested_kind (type_kind_of (wrapper_kind w))
-nested_wraps list = refl
-nested_wraps large_list = refl
-nested_wraps list_view = refl
-nested_wraps large_list_view = refl
-nested_wraps (fixed_size_list n) = refl
-nested_wraps (map d) = refl
+abbrev nested_kind : TypeKind → Bool
+nested_kind Leaf = false
+nested_kind _ = true
 
-map_wraps : (w : Wrapper) → is_map_wrapper w ≡ map_kind (type_kind_of (wrapper_kind w))
-map_wraps list = refl
-map_wraps large_list = refl
-map_wraps list_view = refl
-map_wraps large_list_view = refl
-map_wraps (fixed_size_list n) = refl
-map_wraps (map d) = refl
+abbrev map_kind : TypeKind → Bool
+map_kind Map = true
+map_kind _ = false
 
-list_wraps : (w : Wrapper) → is_list_wrapper w ≡ list_kind (type_kind_of (wrapper_kind w))
-list_wraps list = refl
-list_wraps large_list = refl
-list_wraps list_view = refl
-list_wraps large_list_view = refl
-list_wraps (fixed_size_list n) = refl
-list_wraps (map d) = refl
+abbrev list_kind : TypeKind → Bool
+list_kind List = true
+list_kind LargeList = true
+list_kind FixedSizeList = true
+list_kind _ = false
 
-module _ (s : Sheet) (p : ℕ) where
-  abbrev kind : ℕ
-  kind = (type_record_at s p).kind
+-- a type is as one of its kind is
+record Alike (t : Ty) (k : TypeKind) : Type 0 where
+  pub nested : is_nested t ≡ nested_kind k
+  pub map : is_map t ≡ map_kind k
+  pub list : is_list t ≡ list_kind k
 
-  nested_by_kind : p < length (types_in s) → is_nested (type_at_place s p) ≡ nested_kind (type_kind_of kind)
-  nested_by_kind h = elim (type_view s p h) [
-    | is_leaf k c n e ↦ ap is_nested e ∙ sym (ap (λ m. nested_kind (type_kind_of m)) k)
-    | is_struct k e ↦ ap is_nested e ∙ sym (ap (λ m. nested_kind (type_kind_of m)) k)
-    | is_wrap w k d c t n e ↦ ap is_nested e ∙ nested_wraps w ∙ sym (ap (λ m. nested_kind (type_kind_of m)) k)
-  ]
+-- it is so for a kind that is told, if any is
+abbrev AlikeAny : Ty → Option TypeKind → Type 0
+AlikeAny t None = Unit {0}
+AlikeAny t (Some k) = Alike t k
 
-  map_by_kind : p < length (types_in s) → is_map (type_at_place s p) ≡ map_kind (type_kind_of kind)
-  map_by_kind h = elim (type_view s p h) [
-    | is_leaf k c n e ↦ ap is_map e ∙ sym (ap (λ m. map_kind (type_kind_of m)) k)
-    | is_struct k e ↦ ap is_map e ∙ sym (ap (λ m. map_kind (type_kind_of m)) k)
-    | is_wrap w k d c t n e ↦ ap is_map e ∙ map_wraps w ∙ sym (ap (λ m. map_kind (type_kind_of m)) k)
-  ]
+wraps : (w : Wrapper) (t : Ty) → is_nested t ≡ true → is_map t ≡ is_map_wrapper w → is_list t ≡ is_list_wrapper w → AlikeAny t (type_kind_of (wrapper_kind w))
+wraps list t n m l = record { nested = n; map = m; list = l }
+wraps large_list t n m l = record { nested = n; map = m; list = l }
+wraps list_view t n m l = record { nested = n; map = m; list = l }
+wraps large_list_view t n m l = record { nested = n; map = m; list = l }
+wraps (fixed_size_list d) t n m l = record { nested = n; map = m; list = l }
+wraps (map d) t n m l = record { nested = n; map = m; list = l }
 
-  list_by_kind : p < length (types_in s) → is_list (type_at_place s p) ≡ list_kind (type_kind_of kind)
-  list_by_kind h = elim (type_view s p h) [
-    | is_leaf k c n e ↦ ap is_list e ∙ sym (ap (λ m. list_kind (type_kind_of m)) k)
-    | is_struct k e ↦ ap is_list e ∙ sym (ap (λ m. list_kind (type_kind_of m)) k)
-    | is_wrap w k d c t n e ↦ ap is_list e ∙ list_wraps w ∙ sym (ap (λ m. list_kind (type_kind_of m)) k)
-  ]
+by_view : (s : Sheet) (p : ℕ) → p < length (types_in s) → AlikeAny (type_at_place s p) (type_kind_of (type_record_at s p).kind)
+by_view s p h = elim (type_view s p h) [
+  | is_leaf k c n e ↦ subst (λ m. AlikeAny (type_at_place s p) (type_kind_of m)) (sym k) (record { nested = ap is_nested e; map = ap is_map e; list = ap is_list e })
+  | is_struct k e ↦ subst (λ m. AlikeAny (type_at_place s p) (type_kind_of m)) (sym k) (record { nested = ap is_nested e; map = ap is_map e; list = ap is_list e })
+  | is_wrap w k d c t n e ↦ subst (λ m. AlikeAny (type_at_place s p) (type_kind_of m)) (sym k) (wraps w (type_at_place s p) (ap is_nested e) (ap is_map e) (ap is_list e))
+]
 
-  pub nested_is : p < length (types_in s) → (read : TypeRecord) → read ≡ type_record_at s p → nested_kind (type_kind_of read.kind) ≡ is_nested (type_at_place s p)
-  nested_is h read e = ap (λ (r : TypeRecord). nested_kind (type_kind_of r.kind)) e ∙ sym (nested_by_kind h)
+module _ (s : Sheet) (p : ℕ) (h : p < length (types_in s)) (k : TypeKind) (is : type_kind_of (type_record_at s p).kind ≡ Some k) where
+  alike : Alike (type_at_place s p) k
+  alike = subst (AlikeAny (type_at_place s p)) is (by_view s p h)
 
-  pub map_is : p < length (types_in s) → (read : TypeRecord) → read ≡ type_record_at s p → map_kind (type_kind_of read.kind) ≡ is_map (type_at_place s p)
-  map_is h read e = ap (λ (r : TypeRecord). map_kind (type_kind_of r.kind)) e ∙ sym (map_by_kind h)
+  pub is_nested_kind : k ≡ Leaf → false ≡ is_nested (type_at_place s p)
+  is_nested_kind e = sym (alike.nested ∙ ap nested_kind e)
 
-  pub list_is : p < length (types_in s) → (read : TypeRecord) → read ≡ type_record_at s p → list_kind (type_kind_of read.kind) ≡ is_list (type_at_place s p)
-  list_is h read e = ap (λ (r : TypeRecord). list_kind (type_kind_of r.kind)) e ∙ sym (list_by_kind h)
+  pub is_other_kind : (k ≡ Leaf → ⊥) → true ≡ is_nested (type_at_place s p)
+  is_other_kind n = sym (alike.nested ∙ go k n)
+    where
+      go : (k : TypeKind) → (k ≡ Leaf → ⊥) → nested_kind k ≡ true
+      go Leaf n = absurd (n refl)
+      go _ n = refl
+
+  pub is_map_kind : k ≡ Map → true ≡ is_map (type_at_place s p)
+  is_map_kind e = sym (alike.map ∙ ap map_kind e)
+
+  pub no_map_kind : (k ≡ Map → ⊥) → false ≡ is_map (type_at_place s p)
+  no_map_kind n = sym (alike.map ∙ go k n)
+    where
+      go : (k : TypeKind) → (k ≡ Map → ⊥) → map_kind k ≡ false
+      go Map n = absurd (n refl)
+      go _ n = refl
+
+  pub is_list_kind : (k ≡ List) ⊎ ((k ≡ LargeList) ⊎ (k ≡ FixedSizeList)) → true ≡ is_list (type_at_place s p)
+  is_list_kind e = sym (alike.list ∙ elim e [ inl a ↦ ap list_kind a | inr f ↦ elim f [ inl a ↦ ap list_kind a | inr a ↦ ap list_kind a ] ])
+
+  pub no_list_kind : (k ≡ List → ⊥) → (k ≡ LargeList → ⊥) → (k ≡ FixedSizeList → ⊥) → false ≡ is_list (type_at_place s p)
+  no_list_kind a b c = sym (alike.list ∙ go k a b c)
+    where
+      go : (k : TypeKind) → (k ≡ List → ⊥) → (k ≡ LargeList → ⊥) → (k ≡ FixedSizeList → ⊥) → list_kind k ≡ false
+      go List a b c = absurd (a refl)
+      go LargeList a b c = absurd (b refl)
+      go FixedSizeList a b c = absurd (c refl)
+      go _ a b c = refl

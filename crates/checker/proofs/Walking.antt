@@ -1,7 +1,7 @@
 -- The walk over an expression. Assumes nothing.
-use Rattle.std.proofs.Common.{◌≡◌, ℕ, ◌+◌, ◌*◌, ◌<◌, ◌≤◌, Bool, List, ◌++◌, length, take, sym, refl, ap, ◌∙◌, append_assoc, append-nil, arith}
+use Rattle.std.proofs.Common.{◌≡◌, ℕ, ◌+◌, ◌*◌, ◌<◌, ◌≤◌, Bool, List, [], ◌++◌, length, sym, refl, ap, ◌∙◌, append_assoc, append-nil, arith}
 use lib.ListN.{length-map}
-use Rattle.std.proofs.lemmas.List.{length-take-le}
+use Rattle.arrayvec.specs.ArrayVec.{array_vec_len}
 use Rattle.rules.specs.Expressions.{Expr, Exprs, done, arg}
 use Rattle.rules.specs.Findings.{Finding, findings, findings_in}
 use Rattle.sheet.specs.declared.sheet.Sheet.{Sheet}
@@ -24,12 +24,10 @@ use Rattle.checker.proofs.Noting.{noted_append}
 use Rattle.checker.proofs.Places.{behind, Left, left, step, over_none, alone, alone_is}
 
 -- the counts of a checker are those of what it found
-pub counted : (k : PushdownChecker) → total (found k) ≡ k.access_count + k.cast_count
+pub counted : (k : PushdownChecker) → total (found k) ≡ array_vec_len k.struct_field_accesses + array_vec_len k.cast_accesses
 counted k =
     let s = sheet_of k in
-    let a = length-map (take k.access_count k.struct_field_accesses) (access_in s) ∙ length-take-le k.access_count k.struct_field_accesses (omega (arith, k.accesses_sized, k.accesses_within)) in
-    let c = length-map (take k.cast_count k.cast_accesses) (cast_in s) ∙ length-take-le k.cast_count k.cast_accesses (omega (arith, k.casts_sized, k.casts_within)) in
-    omega (arith, a, c)
+    omega (arith, length-map k.struct_field_accesses.items (access_in s), length-map k.cast_accesses.items (cast_in s))
 
 module _ (s : Sheet) (lists casts : Bool) where
   abbrev need : Expr → List Finding
@@ -61,17 +59,17 @@ module _ (s : Sheet) (lists casts : Bool) where
     pub same : noted (found k) (needs (left s at end rest)) ≡ whole
     pub room : start + 2 * total (found k) ≤ at
 
-  pub walk_start : (p : ℕ) (k : PushdownChecker) (h : p < length (nodes_in s)) → Settings s lists casts k → k.access_count ≡ 0 → k.cast_count ≡ 0 → Walking (noted (found k) (need (expr_at s p))) p p (p + node_span s p) k
+  pub walk_start : (p : ℕ) (k : PushdownChecker) (h : p < length (nodes_in s)) → Settings s lists casts k → k.struct_field_accesses.items ≡ [] → k.cast_accesses.items ≡ [] → Walking (noted (found k) (need (expr_at s p))) p p (p + node_span s p) k
   walk_start p k h e a c = record {
     settings = e;
     rest = alone s p h;
     same = ap (λ w. noted (found k) (needs w)) (alone_is s p h) ∙ ap (noted (found k)) (append-nil (need (expr_at s p)));
-    room = omega (arith, counted k);
+    room = omega (arith, counted k, ap length a, ap length c);
   }
 
   module _ (whole : Notes) (start at end : ℕ) (k : PushdownChecker) (w : Walking whole start at end k) where
     -- there is room for another access and another cast
-    pub walk_room : at < end → (at < length (nodes_in s)) × (k.access_count < 256) × (k.cast_count < 256)
+    pub walk_room : at < end → (at < length (nodes_in s)) × (array_vec_len k.struct_field_accesses < 256) × (array_vec_len k.cast_accesses < 256)
     walk_room h =
         let low = w.rest.within in
         (omega (arith, low), omega (arith, low, few_nodes s, w.room, counted k), omega (arith, low, few_nodes s, w.room, counted k))

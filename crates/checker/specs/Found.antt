@@ -1,5 +1,5 @@
 -- What a checker has found, and what it comes to. Assumes nothing.
-use Rattle.std.specs.Prelude.{ℕ, List, map, take, Option}
+use Rattle.std.specs.Prelude.{ℕ, List, map, Option}
 use Rattle.rules.specs.Names.{Name}
 use Rattle.rules.specs.Types.{Ty}
 use Rattle.sheet.specs.declared.sheet.Sheet.{Sheet}
@@ -12,8 +12,8 @@ use Rattle.checker.specs.Notes.{Notes, flagged}
 abbrev pub found : PushdownChecker → Notes
 found c = record {
   roots = c.required_columns.flags;
-  accesses = map (access_in c.file_schema.now) (take c.access_count c.struct_field_accesses);
-  casts = map (cast_in c.file_schema.now) (take c.cast_count c.cast_accesses);
+  accesses = map (access_in c.file_schema.now) c.struct_field_accesses.items;
+  casts = map (cast_in c.file_schema.now) c.cast_accesses.items;
   unknowns = c.projected_columns;
   unsupporteds = c.non_primitive_columns;
   unpushables = c.has_unpushable_udfs;
@@ -21,7 +21,7 @@ found c = record {
 
 -- the roots of a list
 abbrev pub roots_of : RootList → List ℕ
-roots_of l = take l.count l.roots
+roots_of l = l.roots.items
 
 -- columns, by what they stand for in a sheet
 abbrev pub Columns : Type 0
@@ -30,7 +30,7 @@ Columns = List ℕ × (List (Option (ℕ × List Name)) × List (Option (ℕ × 
 abbrev pub columns_in : Sheet → PushdownColumns → Columns
 columns_in s c = (
   roots_of c.required_columns,
-  (map (access_in s) (take c.access_count c.struct_field_accesses), map (cast_in s) (take c.cast_count c.cast_accesses)),
+  (map (access_in s) c.struct_field_accesses.items, map (cast_in s) c.cast_accesses.items),
 )
 
 abbrev pub columns_of : Notes → Columns

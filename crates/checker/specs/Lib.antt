@@ -3,5 +3,4 @@ pub mod Notes
 pub mod Predicates
 pub mod Rules
 pub mod Settings
-pub mod TypeKinds
 pub mod Visits

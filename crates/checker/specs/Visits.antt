@@ -5,7 +5,7 @@ use Rattle.rules.specs.Names.{Name}
 use Rattle.rules.specs.Expressions.{Expr, column, literal, get_field, cast, is_null, is_not_null, input_file_name, file_row_index, scalar_function, operator, Exprs, done, arg, is_column, path_of}
 use Rattle.rules.specs.Findings.{Finding, through, path_step, findings_in}
 use Rattle.format.specs.declared.kinds.NodeKind.{NodeKind}
-use Rattle.format.specs.Kinds.{node_kind_of}
+use Rattle.format.specs.Kinds.{node_kind_of, literal_kind_of}
 use Rattle.format.specs.Records.{no_node}
 use Rattle.sheet.specs.declared.sheet.Sheet.{Sheet}
 use Rattle.sheet.specs.Seen.{roots_in, nodes_in}
@@ -16,11 +16,16 @@ use Rattle.checker.specs.declared.recursion.TreeNodeRecursion.TheVariants.{Conti
 use Rattle.checker.specs.declared.state.PushdownChecker.{PushdownChecker}
 use Rattle.checker.specs.Found.{found}
 use Rattle.checker.specs.Notes.{noted}
+use Rattle.checker.specs.Predicates.{is_text_literal}
 use Rattle.checker.specs.Settings.{sheet_of, file_of, findings_at}
 
 -- the kind of the node at a place
 abbrev pub kind_at : Sheet → ℕ → Option NodeKind
 kind_at s place = node_kind_of (slice_index_or (nodes_in s) place no_node).kind
+
+-- whether the node at a place is a literal with a text
+abbrev pub is_text_at : Sheet → ℕ → Bool
+is_text_at s place = is_text_literal (kind_at s place) (literal_kind_of (slice_index_or (nodes_in s) place no_node).literal_kind)
 
 -- the arguments of an expression
 abbrev pub arguments_of : Expr → Exprs

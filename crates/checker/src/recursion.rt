@@ -20,13 +20,3 @@ impl TreeNodeRecursion {
         }
     }
 }
-
-/// The rule that a node falls under.
-#[derive(Clone, Copy)]
-pub enum Rule {
-    SingleColumn,
-    StructField,
-    WholeCast,
-    Unpushable,
-    Others,
-}

@@ -1,9 +1,11 @@
 //! Sets of roots.
-ghost use Rattle.std.specs.Prelude.{◌≡◌, ℕ, ◌<◌, ◌≤◌, length, slice_index};
+ghost use Rattle.std.specs.Prelude.{◌≡◌, ℕ, ◌<◌, length, slice_index};
+
+use arrayvec::ArrayVec;
 
 mod members;
 
-/// A set of roots, of which a sheet has at most 256.
+/// A set of roots, of which a sheet has at most 256: a flag for each, so no length stands beside them.
 #[derive(Drop)]
 pub struct RootSet {
     pub flags: [bool; 256],
@@ -13,9 +15,6 @@ pub struct RootSet {
 /// Roots in a row, at most 256, each of which can be in a set.
 #[derive(Drop)]
 pub struct RootList {
-    pub roots: [usize; 256],
-    pub count: usize,
-    ghost sized: { length roots ≡ 256 },
-    ghost within: { count ≤ 256 },
-    ghost low: { (k : ℕ) → k < count → slice_index roots k < 256 },
+    pub roots: ArrayVec<usize, 256>,
+    ghost low: { (k : ℕ) → k < length roots.items → slice_index roots.items k < 256 },
 }

@@ -1,8 +1,7 @@
 //! The state of a checker.
-ghost use Rattle.std.specs.Prelude.{◌≡◌, ◌≤◌, length};
-
 use crate::root_set::RootSet;
 use access::{CastColumnAccess, StructFieldAccess};
+use arrayvec::ArrayVec;
 use sheet::Sheet;
 
 /// Goes through an expression and notes what it needs of the roots, and whether anything keeps it from being pushed down.
@@ -18,12 +17,6 @@ pub struct PushdownChecker<'schema> {
     // What only the reader knows is asked for.
     pub(crate) has_unpushable_udfs: bool,
     pub(crate) required_columns: RootSet,
-    pub(crate) struct_field_accesses: [StructFieldAccess; 256],
-    pub(crate) access_count: usize,
-    pub(crate) cast_accesses: [CastColumnAccess; 256],
-    pub(crate) cast_count: usize,
-    ghost accesses_sized: { length struct_field_accesses ≡ 256 },
-    ghost casts_sized: { length cast_accesses ≡ 256 },
-    ghost accesses_within: { access_count ≤ 256 },
-    ghost casts_within: { cast_count ≤ 256 },
+    pub(crate) struct_field_accesses: ArrayVec<StructFieldAccess, 256>,
+    pub(crate) cast_accesses: ArrayVec<CastColumnAccess, 256>,
 }

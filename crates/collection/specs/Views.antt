@@ -30,7 +30,7 @@ pub record Held : Type 0 where
   pub accesses : List StructFieldAccess
 
 unfoldable pub held : Collection → Records → Held
-held c t = record { expressions = take c.expressions t.expressions; casts = take c.casts t.casts; accesses = take c.accesses t.accesses }
+held c t = record { expressions = take c.counts.expressions t.expressions; casts = take c.counts.casts t.casts; accesses = take c.counts.accesses t.accesses }
 
 abbrev pub seen_by : Sheet → Held → View
 seen_by s h = record { expressions = h.expressions; casts = map (cast_in s) h.casts; accesses = map (access_in s) h.accesses }

@@ -1,24 +1,30 @@
 //! What a collection takes.
-ghost use Rattle.std.specs.Prelude.{◌≡◌, ◌+◌, ◌≤◌, Bool, List, ◌++◌, length, take, if◌then◌else◌, nat_le};
+ghost use Rattle.std.specs.Prelude.{◌≡◌, ◌+◌, ◌<◌, ◌≤◌, ◌++◌, length, take, MatchResult};
+ghost use Rattle.format.specs.declared.fault.Fault.TheVariants.{TablesFull};
 ghost use Rattle.collection.specs.Views.{Pushed, held, with_expression, with_casts, with_accesses};
 
-use crate::state::{Collection, Records};
+use crate::state::{Collection, Counts, Records};
 use access::{CastColumnAccess, StructFieldAccess};
 use sheet::Fault;
 
-// Writes items to a table from a place on, if it has room for them.
-fn append<T: Copy>(table: &mut [T], at: usize, items: &[T]) -> bool
-    requires { at ≤ length table.old }
-    ensures fits { result ≡ nat_le (at + length items.now) (length table.old) }
-    ensures written { take (if result then at + length items.now else at) table.new ≡ (if result then take at table.old ++ items.now else take at table.old) }
+// Writes items to a table behind those that it holds, if there is room for them. Tells how many it holds then.
+fn append<T: Copy>(
+    table: &mut [T],
+    held: usize,
+    items: &[T],
+    expression: usize,
+) -> Result<usize, Fault>
+    requires { held ≤ length table.old }
+    ensures { MatchResult result
+        (λ count. (count ≡ held + length items.now) × (count ≤ length table.old) × (take count table.new ≡ take held table.old ++ items.now))
+        (λ e. (e ≡ TablesFull expression) × (length table.old < held + length items.now) × (take held table.new ≡ take held table.old)) }
 {
-    if table.len() - at < items.len() {
-        return false;
+    if table.len() - held < items.len() {
+        return Err(Fault::TablesFull { expression });
     }
-    for (k, item) in items.iter().enumerate() {
-        table[at + k] = *item;
-    }
-    true
+    let count = held + items.len();
+    table[held..count].copy_from_slice(items);
+    Ok(count)
 }
 
 impl Collection {
@@ -26,12 +32,12 @@ impl Collection {
     fn push_expression(&mut self, records: &mut Records, expression: u16) -> Result<(), Fault>
         ensures { ◌≡◌ {A = Pushed} (result, held self.new records.new) (with_expression (held self.old records.old) expression) }
     {
-        if self.expressions >= 64 {
-            let expression = expression as usize;
-            return Err(Fault::TablesFull { expression });
-        }
-        records.expressions[self.expressions] = expression;
-        self.expressions += 1;
+        self.counts.expressions = append(
+            &mut records.expressions,
+            self.counts.expressions,
+            &[expression],
+            expression as usize,
+        )?;
         Ok(())
     }
 
@@ -44,10 +50,7 @@ impl Collection {
     ) -> Result<(), Fault>
         ensures { ◌≡◌ {A = Pushed} (result, held self.new records.new) (with_casts (held self.old records.old) expression casts.now) }
     {
-        if !append(&mut records.casts, self.casts, casts) {
-            return Err(Fault::TablesFull { expression });
-        }
-        self.casts += casts.len();
+        self.counts.casts = append(&mut records.casts, self.counts.casts, casts, expression)?;
         Ok(())
     }
 
@@ -60,10 +63,12 @@ impl Collection {
     ) -> Result<(), Fault>
         ensures { ◌≡◌ {A = Pushed} (result, held self.new records.new) (with_accesses (held self.old records.old) expression accesses.now) }
     {
-        if !append(&mut records.accesses, self.accesses, accesses) {
-            return Err(Fault::TablesFull { expression });
-        }
-        self.accesses += accesses.len();
+        self.counts.accesses = append(
+            &mut records.accesses,
+            self.counts.accesses,
+            accesses,
+            expression,
+        )?;
         Ok(())
     }
 }
@@ -71,29 +76,15 @@ impl Collection {
 // Puts the counts of a collection back on every way out, unless what was recorded is accepted.
 struct Guard<'a> {
     collection: &'a mut Collection,
-    expressions: usize,
-    casts: usize,
-    accesses: usize,
-    ghost expressions_within: { expressions ≤ 64 },
-    ghost casts_within: { casts ≤ 64 },
-    ghost accesses_within: { accesses ≤ 256 },
+    before: Counts,
 }
 
 impl Drop for Guard<'_> {
     fn drop(self)
-        ensures expressions { self.exit.0.now.expressions ≡ self.entry.expressions }
-        ensures casts { self.exit.0.now.casts ≡ self.entry.casts }
-        ensures accesses { self.exit.0.now.accesses ≡ self.entry.accesses }
+        ensures { self.exit.0.now.counts ≡ self.entry.before }
     {
-        let Guard {
-            collection,
-            expressions,
-            casts,
-            accesses,
-        } = self;
-        collection.expressions = expressions;
-        collection.casts = casts;
-        collection.accesses = accesses;
+        let Guard { collection, before } = self;
+        collection.counts = before;
     }
 }
 
@@ -103,9 +94,7 @@ impl Guard<'_> {
     {
         let Guard {
             collection: _,
-            expressions: _,
-            casts: _,
-            accesses: _,
+            before: _,
         } = self;
     }
 }

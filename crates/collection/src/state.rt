@@ -15,13 +15,20 @@ pub struct Records {
     ghost accesses_sized: { length accesses ≡ 256 },
 }
 
-/// How many expressions, casts and accesses a collection holds. It is moved, and never copied.
-#[derive(Drop)]
-pub struct Collection {
+/// How many expressions, casts and accesses are held.
+#[derive(Clone, Copy)]
+pub(crate) struct Counts {
     pub(crate) expressions: usize,
     pub(crate) casts: usize,
     pub(crate) accesses: usize,
     ghost expressions_within: { expressions ≤ 64 },
     ghost casts_within: { casts ≤ 64 },
     ghost accesses_within: { accesses ≤ 256 },
+}
+
+/// What a collection holds, by its counts. It is moved, and never copied. Its tables are not in it: they are lent at each
+/// call.
+#[derive(Drop)]
+pub struct Collection {
+    pub(crate) counts: Counts,
 }

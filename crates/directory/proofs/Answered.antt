@@ -1,15 +1,18 @@
 -- What the rows of a flattened directory answer. Assumes nothing.
-use Rattle.std.proofs.Common.{◌≡◌, ℕ, zero, suc, ◌+◌, ◌-◌, ◌<◌, ◌≤◌, List, [], ◌∷◌, map, length, get_or, take, Some, None, sym, refl, ap, ◌∙◌, ⊎_elim, arith}
+use Rattle.std.proofs.Common.{◌≡◌, ℕ, zero, suc, ◌+◌, ◌-◌, ◌<◌, ◌≤◌, List, [], ◌∷◌, map, length, get_or, Some, None, Option, Bor, sym, refl, ap, ◌∙◌, ⊎_elim, subst, arith}
 use lib.ListN.{length-map}
-use Rattle.std.proofs.lemmas.List.{get_or-take, get_or-map, get_or_append_left, get_or_at, length_push, length-take-le}
-use Rattle.std.proofs.lemmas.Option.{slice_get-get_or, slice_get_past}
+use Rattle.std.proofs.lemmas.List.{get_or-map, get_or_append_left, get_or_at, length_push}
+use Rattle.std.proofs.lemmas.Option.{slice_get-get_or, slice_get_past, slice_get_read, slice_get-map, slice_get_within, get_or_from_slice_get}
+use Rattle.std.specs.Option.{option_copied, option_map, IfSome}
+use Rattle.std.specs.Slice.{IsGetResult}
 use Rattle.std.proofs.lemmas.Bool.{cases_eq}
 use Rattle.std.specs.List.{slice_get}
 use Rattle.rules.specs.Leaves.{Leaf}
 use Rattle.rules.specs.Names.{Name}
 use Rattle.sheet.specs.declared.sheet.Sheet.{Sheet}
+use Rattle.sheet.specs.Seen.{elements_in}
 use Rattle.directory.specs.declared.flattened.FlattenedDirectory.{FlattenedDirectory}
-use Rattle.directory.specs.declared.flattened.rows.LeafRow.{LeafRow}
+use Rattle.directory.specs.declared.flattened.rows.ElementRow.{ElementRow}
 use Rattle.directory.specs.Flattened.{flattened_leaves}
 use Rattle.directory.specs.Rows.{no_row, upward, chain, name_at, path_to, leaf_of_row}
 
@@ -36,11 +39,11 @@ chain_at ps (suc n) e j h =
 
 -- the paths as a list of their own
 module _ (s : Sheet) (ps : List ℕ) where
-  abbrev names_up_from : LeafRow → List Name
+  abbrev names_up_from : ElementRow → List Name
   names_up_from r = path_to s ps r.parts r.element
 
   -- the roots and the paths together are the leaves
-  joined : (rs : List LeafRow) (ls : List Leaf) → map (λ r. r.root) rs ≡ map (λ l. l.root) ls → map names_up_from rs ≡ map (λ l. l.parts) ls → map (leaf_of_row s ps) rs ≡ ls
+  joined : (rs : List ElementRow) (ls : List Leaf) → map (λ r. r.root) rs ≡ map (λ l. l.root) ls → map names_up_from rs ≡ map (λ l. l.parts) ls → map (leaf_of_row s ps) rs ≡ ls
   joined [] [] a b = refl
   joined [] (l ∷ ls) a b = let z : ◌≡◌ {A = ℕ} 0 (suc (length ls)) = ap length a ∙ ap suc (length-map ls (λ l. l.root)) in absurd (omega arith)
   joined (r ∷ rs) [] a b = let z : ◌≡◌ {A = ℕ} (suc (length rs)) 0 = sym (ap suc (length-map rs (λ r. r.root))) ∙ ap length a in absurd (omega arith)
@@ -62,41 +65,37 @@ module _ (s : Sheet) (ps : List ℕ) where
       slice_get-get_or (path_to s ps n e) j [] (omega (arith, length-path n e))
       ∙ ap Some (get_or-map (name_at s) (chain ps n e) j 0 [] (omega (arith, length-chain ps n e)) ∙ ap (name_at s) (chain_at ps n e j h))
 
--- there is a row for each leaf
-pub row_count : (n : ℕ) (rows : List LeafRow) (ls : List Leaf) → n ≤ length rows → map (λ r. r.root) (take n rows) ≡ map (λ l. l.root) ls → n ≡ length ls
-row_count n rows ls h e =
-    omega (arith, length-take-le n rows h, length-map (take n rows) (λ r. r.root), length-map ls (λ l. l.root), ap length e)
+-- what `get` tells of a list
+pub got : {X : Type 0} (xs : List X) (i : ℕ) (o : Option (Bor X)) → IsGetResult xs i i o → option_copied o ≡ slice_get xs i
+got xs i None h = sym (slice_get_past xs i h.3)
+got xs i (Some x) h = sym (slice_get_read xs (length xs) i x.now refl h.3.0 h.1)
 
 module _ (d : FlattenedDirectory) where
   abbrev s : Sheet
   s = d.sheet.now
 
-  abbrev n : ℕ
-  n = d.leaf_count
+  abbrev rows : List ElementRow
+  rows = d.rows.items
 
-  abbrev leaf : LeafRow → Leaf
+  abbrev leaf : ElementRow → Leaf
   leaf = leaf_of_row s d.parents
 
   abbrev ls : List Leaf
   ls = flattened_leaves s
 
-  abbrev row : ℕ → LeafRow
-  row i = get_or d.rows i no_row
+  -- there is a row for each leaf
+  pub row_count : length rows ≡ length ls
+  row_count = omega (arith, length-map rows (λ r. r.root), length-map ls (λ l. l.root), ap length d.rooted)
 
-  within : n ≤ length d.rows
-  within = omega (arith, d.long.0, d.long.2)
+  listed : map leaf rows ≡ ls
+  listed = joined s d.parents rows ls d.rooted d.led
 
-  listed : map leaf (take n d.rows) ≡ ls
-  listed = joined s d.parents (take n d.rows) ls d.rooted d.led
+  -- the row of a leaf
+  pub row_is : (i : ℕ) (o : Option ElementRow) → o ≡ slice_get rows i → option_map leaf o ≡ slice_get ls i
+  row_is i o e = ap (option_map leaf) e ∙ sym (slice_get-map leaf rows i) ∙ ap (λ w. slice_get w i) listed
 
-  pub beyond : (i : ℕ) → n ≤ i → slice_get ls i ≡ None
-  beyond i h = slice_get_past ls i (omega (arith, d.counted))
-
-  pub here : (i : ℕ) → i < n → slice_get ls i ≡ Some (leaf (row i))
-  here i h =
-      let short : i < length (take n d.rows) = omega (arith, length-take-le n d.rows within) in
-      slice_get-get_or ls i (leaf no_row) (omega (arith, d.counted))
-      ∙ ap Some (ap (λ w. get_or w i (leaf no_row)) (sym listed) ∙ get_or-map leaf (take n d.rows) i no_row (leaf no_row) short ∙ ap leaf (get_or-take n d.rows i no_row h))
-
-  pub row_path : (i : ℕ) → length (path_to s d.parents (row i).parts (row i).element) ≡ (row i).parts
-  row_path i = length-path s d.parents (row i).parts (row i).element
+  pub row_stands : (i : ℕ) (o : Option ElementRow) → o ≡ slice_get rows i → IfSome o (λ r. (r.element < length (elements_in s)) × (length (path_to s d.parents r.parts r.element) ≡ r.parts))
+  row_stands i None e = tt
+  row_stands i (Some r) e =
+      let h = slice_get_within rows i r (sym e) in
+      (subst (λ q. q.element < length (elements_in s)) (get_or_from_slice_get rows i r no_row (sym e)) (d.inside i h), length-path s d.parents r.parts r.element)

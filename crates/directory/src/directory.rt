@@ -4,6 +4,15 @@ ghost use Rattle.std.specs.Option.{option_map};
 ghost use Rattle.std.specs.List.{slice_get};
 ghost use Rattle.rules.specs.Leaves.{Leaf, roots, root_at, part_count_at, part_of, part_is, NeverFalls};
 
+/// Which of a sheet's directories is meant.
+#[derive(Clone, Copy, Debug, PartialEq, Eq)]
+pub enum DirectoryKind {
+    /// What its sections of leaves and parts list.
+    Listed,
+    /// What its elements flatten to.
+    Flattened,
+}
+
 /// One fixed list of leaves, in the order of their roots.
 pub trait LeafDirectory {
     /// The list that the directory stands for.

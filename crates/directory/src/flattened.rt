@@ -1,10 +1,11 @@
 //! The directory of Parquet's flattened schema.
-ghost use Rattle.std.specs.Prelude.{◌≡◌, ◌≤◌, map, length, take};
+ghost use Rattle.std.specs.Prelude.{◌≡◌, map, length};
 ghost use Rattle.rules.specs.Leaves.{roots};
 ghost use Rattle.directory.specs.Flattened.{flattened_leaves};
 ghost use Rattle.directory.specs.Rows.{path_to, RowsInside, ParentsInside};
 
-use crate::flattened::rows::LeafRow;
+use crate::flattened::rows::ElementRow;
+use arrayvec::ArrayVec;
 use sheet::Sheet;
 
 mod answers;
@@ -16,13 +17,11 @@ mod rows;
 #[derive(Drop)]
 pub struct FlattenedDirectory<'a> {
     sheet: &'a Sheet,
-    leaf_count: usize,
-    rows: [LeafRow; 1024],
+    rows: ArrayVec<ElementRow, 1024>,
     parents: [u16; 1024],
-    ghost long: { (length rows ≡ 1024) × (length parents ≡ 1024) × (leaf_count ≤ 1024) },
-    ghost counted: { leaf_count ≡ length (flattened_leaves sheet.now) },
-    ghost inside: { RowsInside sheet.now rows leaf_count },
+    ghost wide: { length parents ≡ 1024 },
+    ghost inside: { RowsInside sheet.now rows.items },
     ghost climbs: { ParentsInside sheet.now parents },
-    ghost rooted: { map (λ r. r.root) (take leaf_count rows) ≡ roots (flattened_leaves sheet.now) },
-    ghost led: { map (λ r. path_to sheet.now parents r.parts r.element) (take leaf_count rows) ≡ map (λ l. l.parts) (flattened_leaves sheet.now) },
+    ghost rooted: { map (λ r. r.root) rows.items ≡ roots (flattened_leaves sheet.now) },
+    ghost led: { map (λ r. path_to sheet.now parents r.parts r.element) rows.items ≡ map (λ l. l.parts) (flattened_leaves sheet.now) },
 }

@@ -5,6 +5,6 @@ mod directory;
 mod flattened;
 mod listed;
 
-pub use directory::{LeafDirectory, LeafPaths};
+pub use directory::{DirectoryKind, LeafDirectory, LeafPaths};
 pub use flattened::FlattenedDirectory;
 pub use listed::ListedDirectory;

@@ -27,10 +27,10 @@ impl<'a> ListedDirectory<'a> {
         ensures leaf { option_map (listed_leaf self.now.sheet.now) result ≡ slice_get (listed_leaves self.now.sheet.now) leaf }
         ensures parts { IfSome result (λ x. length (listed_leaf self.now.sheet.now x).parts ≡ x.parts) }
     {
-        if leaf >= self.sheet.leaf_count() {
+        if leaf >= self.sheet.count::<LeafRecord>() {
             return None;
         }
-        Some(self.sheet.leaf_record(leaf))
+        Some(self.sheet.record(leaf))
     }
 
     // A part of the path of a leaf that has as many parts as its record says.
@@ -41,7 +41,7 @@ impl<'a> ListedDirectory<'a> {
         if part >= leaf.parts as usize {
             return None;
         }
-        let name = self.sheet.part(leaf.first_part as usize + part);
+        let name = self.sheet.record(leaf.first_part as usize + part);
         Some(self.sheet.name(name))
     }
 }
@@ -52,36 +52,24 @@ impl LeafDirectory for ListedDirectory<'_> {
     ghost rising = { λ d. listed_never_fall d.sheet.now };
 
     fn count(&self) -> usize {
-        self.sheet.leaf_count()
+        self.sheet.count::<LeafRecord>()
     }
 
     fn root(&self, leaf: usize) -> Option<usize> {
-        match self.leaf_record(leaf) {
-            Some(found) => Some(found.root as usize),
-            None => None,
-        }
+        self.leaf_record(leaf).map(|found| found.root as usize)
     }
 
     fn parts(&self, leaf: usize) -> Option<usize> {
-        match self.leaf_record(leaf) {
-            Some(found) => Some(found.parts as usize),
-            None => None,
-        }
+        self.leaf_record(leaf).map(|found| found.parts as usize)
     }
 
     fn part_is(&self, leaf: usize, part: usize, name: &[u8]) -> Option<bool> {
-        match self.part(leaf, part) {
-            Some(bytes) => Some(bytes == name),
-            None => None,
-        }
+        self.part(leaf, part).map(|bytes| bytes == name)
     }
 }
 
 impl LeafPaths for ListedDirectory<'_> {
     fn part(&self, leaf: usize, part: usize) -> Option<&[u8]> {
-        match self.leaf_record(leaf) {
-            Some(found) => self.part_of_record(found, part),
-            None => None,
-        }
+        self.part_of_record(self.leaf_record(leaf)?, part)
     }
 }

@@ -1,5 +1,4 @@
 pub mod Headers
 pub mod Laying
 pub mod Passes
-pub mod Searched
 pub mod Tables

@@ -1,17 +1,18 @@
 -- The passes over the elements. Assumes nothing.
-use Rattle.std.proofs.Common.{◌≡◌, ℕ, zero, suc, ◌+◌, ◌-◌, ◌<◌, ◌≤◌, Bool, true, false, cond, ◌&&◌, ltb, leb, List, [], ◌∷◌, ◌++◌, length, get_or, drop, set, Some, None, Option, sym, refl, ap, ◌∙◌, subst, append_assoc, append-nil, arith, length-drop, length-set}
+use Rattle.std.proofs.Common.{◌≡◌, ℕ, zero, suc, ◌+◌, ◌-◌, ◌<◌, ◌≤◌, Bool, true, false, cond, ◌&&◌, ltb, leb, List, [], ◌∷◌, ◌++◌, length, get_or, drop, Some, None, Option, sym, refl, ap, ◌∙◌, subst, append_assoc, append-nil, arith, length-drop}
 use Rattle.std.proofs.lemmas.List.{at_drop_all, get_or-drop, drop_more}
+use Rattle.std.specs.List.{slice_get}
+use Rattle.std.specs.Option.{option_map}
 use Rattle.std.proofs.lemmas.Bool.{le-leb, lt-leb, le-ltb, lt-ltb, cond-true, cond-false, leb-true, leb-false}
 use Rattle.rules.specs.Searches.{first_failing, earlier}
 use Rattle.rules.specs.Trees.{Tree, node, Forest, none, more, size, sizes, levels, levels_in, first_trees, later_trees, first_tree, forest, whole}
-use Rattle.rules.proofs.ArrayStacks.{length-stacked, stacked_push, stacked_top, stacked_change}
 use Rattle.rules.proofs.Forests.{whole_first, one_taken, one_counted, length-levels, sizes_forest}
 use Rattle.rules.proofs.Searches.{search_on, search_ends, search_over, search_starts, first_of_both}
-use Rattle.format.specs.declared.elements.OpenElement.{OpenElement}
+use Rattle.format.specs.declared.opens.Open.{Open}
 use Rattle.format.specs.declared.records.ElementRecord.{ElementRecord}
 use Rattle.format.specs.declared.layout.Layout.{Layout}
 use Rattle.format.specs.Good.{whole_end, fair_at, fair_element, bad_in, bad_in_tree, first_bad_element}
-use Rattle.format.specs.Opens.{no_open, opens, fewer, AllOpen, coming_levels}
+use Rattle.format.specs.Opens.{fewer, AllOpen, coming_levels}
 use Rattle.format.specs.Records.{no_element}
 
 abbrev kids : ElementRecord → ℕ
@@ -55,41 +56,33 @@ module _ (es : List ElementRecord) where
       let many : n ≡ suc (n - 1) = omega arith in
       sym (inv ∙ at_drop_all (λ w. ending i n (forest kids w)) es i h ∙ ap (λ m. ending i m none) many)
 
--- the stack of open elements
-pub closed : (xs : List OpenElement) (n : ℕ) → 0 < n → (get_or xs (n - 1) no_open).left ≤ 1 → opens xs (n - 1) ≡ fewer (opens xs n)
-closed xs n h low = sym (ap fewer (stacked_top no_open xs n h) ∙ cond-true _ _ _ (le-leb _ _ low))
-
-pub lowered : (xs : List OpenElement) (n : ℕ) → 0 < n → n ≤ length xs → 1 < (get_or xs (n - 1) no_open).left
-    → opens (set xs (n - 1) (record { left = (get_or xs (n - 1) no_open).left - 1; level = (get_or xs (n - 1) no_open).level })) n ≡ fewer (opens xs n)
-lowered xs n h within many =
-    stacked_change no_open xs n _ h within ∙ sym (ap fewer (stacked_top no_open xs n h) ∙ cond-false _ _ _ (lt-leb _ _ many))
-
-all_fewer : (os : List OpenElement) → AllOpen os → AllOpen (fewer os)
+-- the open elements
+all_fewer : (os : List (Open ℕ)) → AllOpen os → AllOpen (fewer os)
 all_fewer [] all = tt
 all_fewer (o ∷ os) all = by (leb o.left 1) refl
   where
-    by : (b : Bool) → leb o.left 1 ≡ b → AllOpen (cond b os (record { left = o.left - 1; level = o.level } ∷ os))
+    by : (b : Bool) → leb o.left 1 ≡ b → AllOpen (cond b os (record { left = o.left - 1; told = o.told } ∷ os))
     by true is = all.3
     by false is = (omega (arith, leb-false _ _ is), all.1, all.2, all.3)
 
-length-fewer : (o : OpenElement) (os : List OpenElement) → length (fewer (o ∷ os)) ≤ suc (length os)
+length-fewer : (o : Open ℕ) (os : List (Open ℕ)) → length (fewer (o ∷ os)) ≤ suc (length os)
 length-fewer o os = by (leb o.left 1)
   where
-    by : (b : Bool) → length (cond b os (record { left = o.left - 1; level = o.level } ∷ os)) ≤ suc (length os)
+    by : (b : Bool) → length (cond b os (record { left = o.left - 1; told = o.told } ∷ os)) ≤ suc (length os)
     by true = omega arith
     by false = omega arith
 
 -- the next tree is taken from the one on top
-next_levels : {A : Type 0} (o : OpenElement) (os : List OpenElement) (t : Tree A) (f : Forest A) → 0 < o.left
-    → coming_levels (o ∷ os) (more t f) ≡ levels o.level t ++ coming_levels (fewer (o ∷ os)) f
+next_levels : {A : Type 0} (o : Open ℕ) (os : List (Open ℕ)) (t : Tree A) (f : Forest A) → 0 < o.left
+    → coming_levels (o ∷ os) (more t f) ≡ levels o.told t ++ coming_levels (fewer (o ∷ os)) f
 next_levels o os t f some =
     let e : o.left ≡ suc (o.left - 1) = omega arith in
-    ap (λ m. levels_in o.level (first_trees m (more t f)) ++ coming_levels os (later_trees m (more t f))) e
-    ∙ append_assoc (levels o.level t) (levels_in o.level (first_trees (o.left - 1) f)) (coming_levels os (later_trees (o.left - 1) f))
-    ∙ ap (λ w. levels o.level t ++ w) (by (leb o.left 1) refl)
+    ap (λ m. levels_in o.told (first_trees m (more t f)) ++ coming_levels os (later_trees m (more t f))) e
+    ∙ append_assoc (levels o.told t) (levels_in o.told (first_trees (o.left - 1) f)) (coming_levels os (later_trees (o.left - 1) f))
+    ∙ ap (λ w. levels o.told t ++ w) (by (leb o.left 1) refl)
   where
-    by : (b : Bool) → leb o.left 1 ≡ b → levels_in o.level (first_trees (o.left - 1) f) ++ coming_levels os (later_trees (o.left - 1) f) ≡ coming_levels (cond b os (record { left = o.left - 1; level = o.level } ∷ os)) f
-    by true is = let low = leb-true _ _ is in let z : o.left - 1 ≡ 0 = omega arith in ap (λ m. levels_in o.level (first_trees m f) ++ coming_levels os (later_trees m f)) z
+    by : (b : Bool) → leb o.left 1 ≡ b → levels_in o.told (first_trees (o.left - 1) f) ++ coming_levels os (later_trees (o.left - 1) f) ≡ coming_levels (cond b os (record { left = o.left - 1; told = o.told } ∷ os)) f
+    by true is = let low = leb-true _ _ is in let z : o.left - 1 ≡ 0 = omega arith in ap (λ m. levels_in o.told (first_trees m f) ++ coming_levels os (later_trees m f)) z
     by false is = refl
 
 drop_tail : {A : Type 0} (p : ℕ) (xs ys : List A) (x : A) → drop p xs ≡ x ∷ ys → drop (p + 1) xs ≡ ys
@@ -102,113 +95,110 @@ drop_tail zero (w ∷ xs) ys x e = let r : xs ≡ ys = cc in r
 drop_tail (suc p) (w ∷ xs) ys x e = let s : suc p + 1 ≡ suc (p + 1) = omega arith in ap (λ m. drop m (w ∷ xs)) s ∙ drop_tail p xs ys x e
 
 -- the levels, as far as the pass has come
-module _ (es : List ElementRecord) (n : ℕ) (long : length es ≡ n) where
+module _ (es : List ElementRecord) where
+  abbrev n : ℕ
+  n = length es
+
   abbrev ok : Tree ElementRecord → ℕ → Bool
   ok t p = leb (get_or (levels 1 t) p 0) 32
 
-  pub record Levelled (p depth : ℕ) (frames : List OpenElement) : Type 0 where
-    pub room : length frames ≡ 33
-    pub low : depth ≤ 33
-    pub sound : AllOpen (opens frames depth)
-    pub gives : (t : Tree ElementRecord) → first_tree (forest kids es) ≡ Some t → coming_levels (opens frames depth) (forest kids (drop p es)) ≡ drop p (levels 1 t)
+  pub record Levelled (p : ℕ) (os : List (Open ℕ)) : Type 0 where
+    pub sound : AllOpen os
+    pub gives : (t : Tree ElementRecord) → first_tree (forest kids es) ≡ Some t → coming_levels os (forest kids (drop p es)) ≡ drop p (levels 1 t)
     pub rest : (t : Tree ElementRecord) → first_tree (forest kids es) ≡ Some t → first_failing (ok t) 0 n ≡ first_failing (ok t) p (n - p)
 
   first_is : (f : Forest ElementRecord) (t : Tree ElementRecord) → first_tree f ≡ Some t → levels_in 1 (first_trees 1 f) ++ [] ≡ levels 1 t
   first_is none t e = let z : ◌≡◌ {A = ℕ} 0 1 = cc in absurd (omega arith)
   first_is (more u f) t e = let s : u ≡ t = cc in append-nil _ ∙ append-nil _ ∙ ap (levels 1) s
 
-  pub levelled_starts : (frames : List OpenElement) → length frames ≡ 33 → opens frames 1 ≡ record { left = 1; level = 1 } ∷ [] → Levelled 0 1 frames
-  levelled_starts frames room is = record {
-    room = room;
-    low = omega arith;
-    sound = subst AllOpen (sym is) (omega arith, omega arith, omega arith, tt);
-    gives = λ t e. ap (λ os. coming_levels os (forest kids es)) is ∙ first_is (forest kids es) t e;
+  pub levelled_starts : Levelled 0 (record { left = 1; told = 1 } ∷ [])
+  levelled_starts = record {
+    sound = (omega arith, omega arith, omega arith, tt);
+    gives = first_is (forest kids es);
     rest = λ t e. search_starts (ok t) n;
   }
 
-  pub low_level : (p depth : ℕ) (frames : List OpenElement) → Levelled p depth frames → 0 < depth → depth ≤ (get_or frames (depth - 1) no_open).level
-  low_level p depth frames s h =
-      let a = subst AllOpen (stacked_top no_open frames depth h) s.sound in
-      omega (arith, a.1, length-stacked no_open frames (depth - 1))
-
   -- where nothing is open, all levels have been told
-  pub told_all : (p depth : ℕ) (frames : List OpenElement) → Levelled p depth frames → depth ≡ 0 → p < n → (t : Tree ElementRecord) → first_tree (forest kids es) ≡ Some t → size t ≡ n → ⊥
-  told_all p depth frames s z h t e whole_is =
-      let g = ap (λ d. coming_levels (opens frames d) (forest kids (drop p es))) (sym z) ∙ s.gives t e in
-      omega (arith, ap length g, length-drop p (levels 1 t), length-levels 1 t)
+  pub told_all : (p : ℕ) → Levelled p [] → p < n → (t : Tree ElementRecord) → first_tree (forest kids es) ≡ Some t → size t ≡ n → ⊥
+  told_all p s h t e whole_is = omega (arith, ap length (s.gives t e), length-drop p (levels 1 t), length-levels 1 t)
 
-  module _ (p depth : ℕ) (frames : List OpenElement) (s : Levelled p depth frames) (some : 0 < depth) (h : p < n) where
-    abbrev top : OpenElement
-    top = get_or frames (depth - 1) no_open
-
-    abbrev under : List OpenElement
-    under = opens frames (depth - 1)
-
-    open_all : AllOpen (top ∷ under)
-    open_all = subst AllOpen (stacked_top no_open frames depth some) s.sound
-
+  module _ (p : ℕ) (top : Open ℕ) (under : List (Open ℕ)) (s : Levelled p (top ∷ under)) (h : p < n) where
     abbrev here : ElementRecord
     here = get_or es p no_element
 
     abbrev behind : Forest ElementRecord
     behind = forest kids (drop (p + 1) es)
 
-    told : (t : Tree ElementRecord) → first_tree (forest kids es) ≡ Some t → drop p (levels 1 t) ≡ top.level ∷ (levels_in (top.level + 1) (first_trees here.children behind) ++ coming_levels (fewer (top ∷ under)) (later_trees here.children behind))
+    told : (t : Tree ElementRecord) → first_tree (forest kids es) ≡ Some t → drop p (levels 1 t) ≡ top.told ∷ (levels_in (top.told + 1) (first_trees here.children behind) ++ coming_levels (fewer (top ∷ under)) (later_trees here.children behind))
     told t e =
         sym (s.gives t e)
-        ∙ (λ k. coming_levels (stacked_top no_open frames depth some k) (ap (forest kids) (drop_more es p no_element (omega (arith, long))) k))
-        ∙ next_levels top under (node here (first_trees here.children behind)) (later_trees here.children behind) open_all.0
+        ∙ ap (λ w. coming_levels (top ∷ under) (forest kids w)) (drop_more es p no_element h)
+        ∙ next_levels top under (node here (first_trees here.children behind)) (later_trees here.children behind) s.sound.0
 
-    level_is : (t : Tree ElementRecord) → first_tree (forest kids es) ≡ Some t → get_or (levels 1 t) p 0 ≡ top.level
+    level_is : (t : Tree ElementRecord) → first_tree (forest kids es) ≡ Some t → get_or (levels 1 t) p 0 ≡ top.told
     level_is t e =
         let z : p + 0 ≡ p = omega arith in
         ap (λ q. get_or (levels 1 t) q 0) (sym z) ∙ sym (get_or-drop p (levels 1 t) 0 0) ∙ ap (λ w. get_or w 0 0) (told t e)
 
-    pub deep_here : 32 < top.level → (t : Tree ElementRecord) → first_tree (forest kids es) ≡ Some t → Some p ≡ first_failing (ok t) 0 n
+    pub deep_here : 32 < top.told → (t : Tree ElementRecord) → first_tree (forest kids es) ≡ Some t → Some p ≡ first_failing (ok t) 0 n
     deep_here high t e = search_ends (ok t) n p h (lt-leb _ _ (omega (arith, level_is t e))) (s.rest t e)
 
-    module _ (after : List OpenElement) (d c : ℕ) (kept : opens after d ≡ fewer (opens frames depth)) (less : d ≤ depth) (room : length after ≡ 33) (low : top.level ≤ 32) (is : c ≡ here.children) where
+    pub low_level : length under < top.told
+    low_level = s.sound.1
+
+    still : AllOpen (fewer (top ∷ under))
+    still = all_fewer (top ∷ under) s.sound
+
+    pub few_left : length (fewer (top ∷ under)) ≤ top.told
+    few_left = omega (arith, length-fewer top under, s.sound.1)
+
+    module _ (c : ℕ) (low : top.told ≤ 32) (is : c ≡ here.children) where
       goes_on : (t : Tree ElementRecord) → first_tree (forest kids es) ≡ Some t → first_failing (ok t) 0 n ≡ first_failing (ok t) (p + 1) (n - (p + 1))
       goes_on t e = search_on (ok t) n p h (le-leb _ _ (omega (arith, level_is t e))) (s.rest t e)
 
-      now_open : opens after d ≡ fewer (top ∷ under)
-      now_open = kept ∙ ap fewer (stacked_top no_open frames depth some)
-
-      still : AllOpen (opens after d)
-      still = subst AllOpen (sym now_open) (all_fewer (top ∷ under) open_all)
-
-      few : length (opens after d) ≤ top.level
-      few = omega (arith, ap length now_open, length-fewer top under, open_all.1)
-
-      pub opened : 0 < c → Levelled (p + 1) (d + 1) (set after d (record { left = c; level = top.level + 1 }))
-      opened more-below =
-          let f : OpenElement = record { left = c; level = top.level + 1 } in
-          let push : opens (set after d f) (d + 1) ≡ f ∷ opens after d = stacked_push no_open after d f (omega (arith, length-stacked no_open after d, few)) in
-          record {
-            room = length-set after d f ∙ room;
-            low = omega (arith, length-stacked no_open after d, few);
-            sound = subst AllOpen (sym push) (more-below, omega (arith, few), omega arith, still);
-            gives = λ t e. ap (λ os. coming_levels os behind) push
-                ∙ (λ k. levels_in (top.level + 1) (first_trees (is k) behind) ++ coming_levels (now_open k) (later_trees (is k) behind))
-                ∙ sym (drop_tail p (levels 1 t) _ _ (told t e));
-            rest = goes_on;
-          }
-
-      pub passed : c ≡ 0 → Levelled (p + 1) d after
-      passed none_below = record {
-        room = room;
-        low = omega (arith, s.low);
-        sound = still;
+      pub opened : 0 < c → Levelled (p + 1) (record { left = c; told = top.told + 1 } ∷ fewer (top ∷ under))
+      opened more_below = record {
+        sound = (more_below, omega (arith, few_left), omega arith, still);
         gives = λ t e.
-            ap (λ os. coming_levels os behind) now_open
-            ∙ (λ k. levels_in (top.level + 1) (first_trees (sym none_below k) behind) ++ coming_levels (fewer (top ∷ under)) (later_trees (sym none_below k) behind))
-            ∙ (λ k. levels_in (top.level + 1) (first_trees (is k) behind) ++ coming_levels (fewer (top ∷ under)) (later_trees (is k) behind))
+            (λ k. levels_in (top.told + 1) (first_trees (is k) behind) ++ coming_levels (fewer (top ∷ under)) (later_trees (is k) behind))
             ∙ sym (drop_tail p (levels 1 t) _ _ (told t e));
         rest = goes_on;
       }
 
-  pub all_low : (p depth : ℕ) (frames : List OpenElement) → Levelled p depth frames → n ≤ p → (t : Tree ElementRecord) → first_tree (forest kids es) ≡ Some t → None ≡ first_failing (ok t) 0 n
-  all_low p depth frames s h t e = search_over (ok t) n p h (s.rest t e)
+      pub passed : c ≡ 0 → Levelled (p + 1) (fewer (top ∷ under))
+      passed none_below = record {
+        sound = still;
+        gives = λ t e.
+            (λ k. levels_in (top.told + 1) (first_trees (sym none_below k) behind) ++ coming_levels (fewer (top ∷ under)) (later_trees (sym none_below k) behind))
+            ∙ (λ k. levels_in (top.told + 1) (first_trees (is k) behind) ++ coming_levels (fewer (top ∷ under)) (later_trees (is k) behind))
+            ∙ sym (drop_tail p (levels 1 t) _ _ (told t e));
+        rest = goes_on;
+      }
+
+  -- the same by the level that is told of the innermost
+  abbrev pub innermost : List (Open ℕ) → Option ℕ
+  innermost os = option_map (λ (o : Open ℕ). o.told) (slice_get os 0)
+
+  pub none_open : (p : ℕ) (os : List (Open ℕ)) → Levelled p os → None ≡ innermost os → p < n → (t : Tree ElementRecord) → first_tree (forest kids es) ≡ Some t → size t ≡ n → ⊥
+  none_open p [] s e = told_all p s
+  none_open p (o ∷ os) s e = let z : ◌≡◌ {A = ℕ} 0 1 = cc in absurd (omega arith)
+
+  pub too_deep : (p : ℕ) (os : List (Open ℕ)) → Levelled p os → p < n → (level : ℕ) → Some level ≡ innermost os → 32 < level → (t : Tree ElementRecord) → first_tree (forest kids es) ≡ Some t → Some p ≡ first_failing (ok t) 0 n
+  too_deep p [] s h level e high = let z : ◌≡◌ {A = ℕ} 0 1 = cc in absurd (omega arith)
+  too_deep p (o ∷ os) s h level e high = let i : level ≡ o.told = cc in deep_here p o os s h (omega (arith, i))
+
+  pub next_open : (p : ℕ) (os : List (Open ℕ)) → Levelled p os → p < n → (level c : ℕ) → Some level ≡ innermost os → level ≤ 32 → c ≡ (get_or es p no_element).children → 0 < c → Levelled (p + 1) (record { left = c; told = level + 1 } ∷ fewer os)
+  next_open p [] s h level c e low is some = let z : ◌≡◌ {A = ℕ} 0 1 = cc in absurd (omega arith)
+  next_open p (o ∷ os) s h level c e low is some =
+      let i : level ≡ o.told = cc in
+      subst (λ l. Levelled (p + 1) (record { left = c; told = l + 1 } ∷ fewer (o ∷ os))) (sym i) (opened p o os s h c (omega (arith, i)) is some)
+
+  pub none_opened : (p : ℕ) (os : List (Open ℕ)) → Levelled p os → p < n → (level c : ℕ) → Some level ≡ innermost os → level ≤ 32 → c ≡ (get_or es p no_element).children → c ≡ 0 → Levelled (p + 1) (fewer os)
+  none_opened p [] s h level c e low is none_below = let z : ◌≡◌ {A = ℕ} 0 1 = cc in absurd (omega arith)
+  none_opened p (o ∷ os) s h level c e low is none_below = let i : level ≡ o.told = cc in passed p o os s h c (omega (arith, i)) is none_below
+
+  pub all_low : (p : ℕ) (os : List (Open ℕ)) → Levelled p os → n ≤ p → (t : Tree ElementRecord) → first_tree (forest kids es) ≡ Some t → None ≡ first_failing (ok t) 0 n
+  all_low p os s h t e = search_over (ok t) n p h (s.rest t e)
 
 -- the passes together
 module _ (l : Layout) (es : List ElementRecord) where

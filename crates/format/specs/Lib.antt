@@ -6,3 +6,4 @@ pub mod Kinds
 pub mod Layouts
 pub mod Opens
 pub mod Records
+pub mod Blanks

@@ -1,11 +1,12 @@
 //! The records of a section of bytes.
 ghost use Rattle.std.specs.Prelude.{◌≡◌, ℕ, ◌+◌, ◌≤◌, List, length, take, drop, slice_index_or};
-ghost use Rattle.format.specs.Records.{table, Inside};
+ghost use Rattle.format.specs.Records.{table, Inside as Fits};
 
 use crate::layout::Section;
+use std::marker::{Model, PhantomData};
 
 /// What stands in a section: a record of so many bytes.
-pub trait Record: Copy {
+pub trait Record: Copy + Default {
     /// How many bytes a record has.
     ghost width: { ℕ };
 
@@ -22,26 +23,56 @@ pub trait Record: Copy {
         requires { at + width ≤ length bytes.now }
         ensures { result ≡ from bytes.now at };
 
-    fn none() -> Self
-        ensures { result ≡ blank };
+    /// The law that every implementation shows: the default record is the blank one.
+    ghost defaults: { (r : Self) → Self.Default.is_default r → r ≡ blank };
 }
 
-// The record at a place of a section, and the blank record beyond it.
-pub fn record_in<R: Record>(bytes: &[u8], section: Section, place: usize) -> R
-    requires inside { Inside R.Record.width section.count section.start (length bytes.now) }
-    ensures { result ≡ slice_index_or (table R.Record.width R.Record.from bytes.now section.start section.count) place R.Record.blank }
-{
-    if place >= section.count as usize {
-        return R::none();
+/// The records of a section that lies inside some bytes: a list of them.
+#[derive(Drop)]
+pub struct Records<'a, R: Record> {
+    bytes: &'a [u8],
+    section: Section,
+    kind: PhantomData<R>,
+}
+
+impl<'a, R: Record> Model for Records<'a, R> {
+    ghost Value = { List R };
+
+    ghost view = { λ r. table R.Record.width R.Record.from r.bytes.now r.section.start r.section.count };
+
+    ghost invariant = { λ r. Fits R.Record.width r.section.count r.section.start (length r.bytes.now) };
+}
+
+impl<'a, R: Record> Records<'a, R> {
+    /// The records of a section.
+    pub fn of(bytes: &'a [u8], section: Section) -> Records<'a, R>
+        requires { Fits R.Record.width section.count section.start (length bytes.now) }
+        ensures { result ≡ table R.Record.width R.Record.from bytes.now section.start section.count }
+    {
+        Records {
+            bytes,
+            section,
+            kind: PhantomData,
+        }
     }
-    R::read(bytes, section.start as usize + R::size() * place)
-}
 
-// How many records a section has.
-pub fn count_in<R: Record>(bytes: &[u8], section: Section) -> usize
-    ensures { result ≡ length (table R.Record.width R.Record.from bytes.now section.start section.count) }
-{
-    section.count as usize
+    /// How many there are.
+    pub fn count(&self) -> u16
+        ensures { result ≡ length self.now }
+    {
+        let Section { count, .. } = self.section;
+        count
+    }
+
+    /// The record at a place, and the blank record beyond the last.
+    pub fn get(&self, place: usize) -> R
+        ensures { result ≡ slice_index_or self.now place R.Record.blank }
+    {
+        if place >= self.section.count as usize {
+            return R::default();
+        }
+        R::read(self.bytes, self.section.start as usize + R::size() * place)
+    }
 }
 
 // So many bytes from a start on, or as many of them as there are.

@@ -2,7 +2,8 @@
 ghost use Rattle.std.specs.Prelude.{◌≡◌};
 ghost use Rattle.format.specs.Faults.{fault_number, fault_place};
 
-/// The refusals of all calls. docs/FAULTS.md says which call tells which, and in what order.
+/// The refusals of all calls. docs/FAULTS.md says which call tells which, and in what order. A section is told by the layout's
+/// number, of which `place` is made.
 #[derive(Clone, Copy, Debug, PartialEq, Eq)]
 pub enum Fault {
     /// The length, the form, or where a section lies; section 0 is the header.

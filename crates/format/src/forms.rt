@@ -1,5 +1,6 @@
 //! How each record stands in its bytes, and which rules its own fields keep.
-ghost use Rattle.std.specs.Prelude.{◌≡◌, ℕ, ◌+◌, ◌≤◌, length};
+ghost use Rattle.std.specs.Prelude.{◌≡◌, ℕ, ◌+◌, ◌≤◌, length, ◌==◌};
+ghost use Rattle.format.specs.Blanks.{zero_name, zero_type, zero_root, zero_leaf, zero_element, zero_node, zero_expression};
 ghost use Rattle.format.specs.Good.{good_name, type_children, node_children, literal_fields, node_fields, fair_type, fair_root, fair_leaf, fair_part, fair_element, fair_node, fair_expression};
 ghost use Rattle.format.specs.Records.{name_from, type_from, root_from, leaf_from, element_from, node_from, expression_from, no_name, no_type, no_root, no_leaf, no_element, no_node, no_expression};
 
@@ -13,8 +14,6 @@ use crate::records::{
 };
 
 const MAX_NAME: u16 = 255;
-
-const NO_NAME: NameRef = NameRef { start: 0, len: 0 };
 
 impl Record for NameRef {
     ghost width = { 4 };
@@ -34,9 +33,7 @@ impl Record for NameRef {
         }
     }
 
-    fn none() -> NameRef {
-        NO_NAME
-    }
+    ghost defaults = { zero_name };
 }
 
 impl Record for TypeRecord {
@@ -61,9 +58,7 @@ impl Record for TypeRecord {
         }
     }
 
-    fn none() -> TypeRecord {
-        TypeRecord::BLANK
-    }
+    ghost defaults = { zero_type };
 }
 
 impl Record for RootRecord {
@@ -83,9 +78,7 @@ impl Record for RootRecord {
         }
     }
 
-    fn none() -> RootRecord {
-        RootRecord { type_place: 0 }
-    }
+    ghost defaults = { zero_root };
 }
 
 impl Record for LeafRecord {
@@ -107,13 +100,7 @@ impl Record for LeafRecord {
         }
     }
 
-    fn none() -> LeafRecord {
-        LeafRecord {
-            root: 0,
-            first_part: 0,
-            parts: 0,
-        }
-    }
+    ghost defaults = { zero_leaf };
 }
 
 impl Record for ElementRecord {
@@ -134,12 +121,7 @@ impl Record for ElementRecord {
         }
     }
 
-    fn none() -> ElementRecord {
-        ElementRecord {
-            children: 0,
-            name: NO_NAME,
-        }
-    }
+    ghost defaults = { zero_element };
 }
 
 impl Record for NodeRecord {
@@ -167,19 +149,7 @@ impl Record for NodeRecord {
         }
     }
 
-    fn none() -> NodeRecord {
-        NodeRecord {
-            kind: 0,
-            literal_kind: 0,
-            children: 0,
-            span: 0,
-            name: NO_NAME,
-            index: 0,
-            type_place: 0,
-            spare: 0,
-            value: 0,
-        }
-    }
+    ghost defaults = { zero_node };
 }
 
 impl Record for ExpressionRecord {
@@ -199,9 +169,7 @@ impl Record for ExpressionRecord {
         }
     }
 
-    fn none() -> ExpressionRecord {
-        ExpressionRecord { node_place: 0 }
-    }
+    ghost defaults = { zero_expression };
 }
 
 impl NameRef {
@@ -213,6 +181,14 @@ impl NameRef {
     }
 }
 
+impl TypeRecord {
+    fn is_struct(self) -> bool
+        ensures { result ≡ (self.kind == 2) }
+    {
+        matches!(TypeKind::try_from(self.kind), Ok(TypeKind::Struct))
+    }
+}
+
 // Whether a type of this kind may have so many children, the first of which stands right behind it.
 fn type_children_fit(kind: Option<TypeKind>, children: u16, behind: TypeRecord) -> bool
     ensures { result ≡ type_children kind children behind }
@@ -220,12 +196,14 @@ fn type_children_fit(kind: Option<TypeKind>, children: u16, behind: TypeRecord) 
     match kind {
         Some(TypeKind::Leaf) => children == 0,
         Some(TypeKind::Struct) => true,
-        Some(TypeKind::Map) => children == 1 && behind.kind == 2 && behind.children == 2,
-        Some(TypeKind::List)
-        | Some(TypeKind::LargeList)
-        | Some(TypeKind::ListView)
-        | Some(TypeKind::LargeListView)
-        | Some(TypeKind::FixedSizeList) => children == 1,
+        Some(TypeKind::Map) => children == 1 && behind.is_struct() && behind.children == 2,
+        Some(
+            TypeKind::List
+            | TypeKind::LargeList
+            | TypeKind::ListView
+            | TypeKind::LargeListView
+            | TypeKind::FixedSizeList,
+        ) => children == 1,
         None => false,
     }
 }
@@ -235,13 +213,15 @@ fn node_children_fit(kind: Option<NodeKind>, children: u16) -> bool
     ensures { result ≡ node_children kind children }
 {
     match kind {
-        Some(NodeKind::Column) | Some(NodeKind::Literal) => children == 0,
-        Some(NodeKind::Cast) | Some(NodeKind::IsNull) | Some(NodeKind::IsNotNull) => children == 1,
-        Some(NodeKind::GetField)
-        | Some(NodeKind::InputFileName)
-        | Some(NodeKind::FileRowIndex)
-        | Some(NodeKind::ScalarFunction)
-        | Some(NodeKind::Operator) => children <= 8,
+        Some(NodeKind::Column | NodeKind::Literal) => children == 0,
+        Some(NodeKind::Cast | NodeKind::IsNull | NodeKind::IsNotNull) => children == 1,
+        Some(
+            NodeKind::GetField
+            | NodeKind::InputFileName
+            | NodeKind::FileRowIndex
+            | NodeKind::ScalarFunction
+            | NodeKind::Operator,
+        ) => children <= 8,
         None => false,
     }
 }
@@ -251,7 +231,7 @@ fn literal_fits(kind: Option<LiteralKind>, names: u16, name: NameRef) -> bool
     ensures { result ≡ literal_fields kind names name }
 {
     match kind {
-        Some(LiteralKind::Null) | Some(LiteralKind::Integer) => true,
+        Some(LiteralKind::Null | LiteralKind::Integer) => true,
         Some(LiteralKind::Text) => name.lies_in(names),
         None => false,
     }
@@ -262,19 +242,21 @@ fn node_fields_fit(kind: Option<NodeKind>, layout: Layout, node: NodeRecord) -> 
     ensures { result ≡ node_fields kind layout node }
 {
     match kind {
-        Some(NodeKind::Column) | Some(NodeKind::ScalarFunction) | Some(NodeKind::Operator) => {
+        Some(NodeKind::Column | NodeKind::ScalarFunction | NodeKind::Operator) => {
             node.name.lies_in(layout.names.count)
         }
         Some(NodeKind::Literal) => literal_fits(
-            LiteralKind::of(node.literal_kind),
+            LiteralKind::try_from(node.literal_kind).ok(),
             layout.names.count,
             node.name,
         ),
-        Some(NodeKind::GetField) | Some(NodeKind::Cast) => node.type_place < layout.types.count,
-        Some(NodeKind::IsNull)
-        | Some(NodeKind::IsNotNull)
-        | Some(NodeKind::InputFileName)
-        | Some(NodeKind::FileRowIndex) => true,
+        Some(NodeKind::GetField | NodeKind::Cast) => node.type_place < layout.types.count,
+        Some(
+            NodeKind::IsNull
+            | NodeKind::IsNotNull
+            | NodeKind::InputFileName
+            | NodeKind::FileRowIndex,
+        ) => true,
         None => false,
     }
 }
@@ -283,7 +265,7 @@ impl Checked for TypeRecord {
     ghost fair = { fair_type };
 
     fn is_fair(self, _before: TypeRecord, behind: TypeRecord, layout: Layout) -> bool {
-        type_children_fit(TypeKind::of(self.kind), self.children, behind)
+        type_children_fit(TypeKind::try_from(self.kind).ok(), self.children, behind)
             && self.nullable <= 1
             && self.name.lies_in(layout.names.count)
     }
@@ -328,7 +310,7 @@ impl Checked for NodeRecord {
     ghost fair = { fair_node };
 
     fn is_fair(self, _before: NodeRecord, _behind: NodeRecord, layout: Layout) -> bool {
-        let kind = NodeKind::of(self.kind);
+        let kind = NodeKind::try_from(self.kind).ok();
         node_children_fit(kind, self.children) && node_fields_fit(kind, layout, self)
     }
 }

@@ -1,9 +1,14 @@
 //! What the kinds of the layout mean.
 ghost use Rattle.std.specs.Prelude.{◌≡◌};
+ghost use Rattle.std.specs.Result.{result_ok};
 ghost use Rattle.format.specs.Kinds.{type_kind_of, node_kind_of, literal_kind_of};
 
-/// The kinds of types.
-#[derive(Clone, Copy)]
+/// A number of the layout that stands for no kind.
+#[derive(Clone, Copy, Debug, PartialEq, Eq)]
+pub struct UnknownKind(pub u8);
+
+/// The kinds of types, each with its number of the layout.
+#[derive(Clone, Copy, Debug, PartialEq, Eq)]
 pub enum TypeKind {
     Leaf,
     Struct,
@@ -15,27 +20,28 @@ pub enum TypeKind {
     Map,
 }
 
-impl TypeKind {
-    /// The kind that a number of the layout stands for. Each type of a sheet has one.
-    pub fn of(code: u8) -> Option<TypeKind>
-        ensures { result ≡ type_kind_of code }
-    {
+impl TryFrom<u8> for TypeKind {
+    type Error = UnknownKind;
+
+    ghost try_from_gives = { λ code kind. result_ok kind ≡ type_kind_of code };
+
+    fn try_from(code: u8) -> Result<TypeKind, UnknownKind> {
         match code {
-            1 => Some(TypeKind::Leaf),
-            2 => Some(TypeKind::Struct),
-            3 => Some(TypeKind::List),
-            4 => Some(TypeKind::LargeList),
-            5 => Some(TypeKind::ListView),
-            6 => Some(TypeKind::LargeListView),
-            7 => Some(TypeKind::FixedSizeList),
-            8 => Some(TypeKind::Map),
-            _ => None,
+            1 => Ok(TypeKind::Leaf),
+            2 => Ok(TypeKind::Struct),
+            3 => Ok(TypeKind::List),
+            4 => Ok(TypeKind::LargeList),
+            5 => Ok(TypeKind::ListView),
+            6 => Ok(TypeKind::LargeListView),
+            7 => Ok(TypeKind::FixedSizeList),
+            8 => Ok(TypeKind::Map),
+            _ => Err(UnknownKind(code)),
         }
     }
 }
 
-/// The kinds of the nodes of an expression.
-#[derive(Clone, Copy)]
+/// The kinds of the nodes of an expression, each with its number of the layout.
+#[derive(Clone, Copy, Debug, PartialEq, Eq)]
 pub enum NodeKind {
     Column,
     Literal,
@@ -49,45 +55,47 @@ pub enum NodeKind {
     Operator,
 }
 
-impl NodeKind {
-    /// The kind that a number of the layout stands for. Each node of a sheet has one.
-    pub fn of(code: u8) -> Option<NodeKind>
-        ensures { result ≡ node_kind_of code }
-    {
+impl TryFrom<u8> for NodeKind {
+    type Error = UnknownKind;
+
+    ghost try_from_gives = { λ code kind. result_ok kind ≡ node_kind_of code };
+
+    fn try_from(code: u8) -> Result<NodeKind, UnknownKind> {
         match code {
-            1 => Some(NodeKind::Column),
-            2 => Some(NodeKind::Literal),
-            3 => Some(NodeKind::GetField),
-            4 => Some(NodeKind::Cast),
-            5 => Some(NodeKind::IsNull),
-            6 => Some(NodeKind::IsNotNull),
-            7 => Some(NodeKind::InputFileName),
-            8 => Some(NodeKind::FileRowIndex),
-            9 => Some(NodeKind::ScalarFunction),
-            10 => Some(NodeKind::Operator),
-            _ => None,
+            1 => Ok(NodeKind::Column),
+            2 => Ok(NodeKind::Literal),
+            3 => Ok(NodeKind::GetField),
+            4 => Ok(NodeKind::Cast),
+            5 => Ok(NodeKind::IsNull),
+            6 => Ok(NodeKind::IsNotNull),
+            7 => Ok(NodeKind::InputFileName),
+            8 => Ok(NodeKind::FileRowIndex),
+            9 => Ok(NodeKind::ScalarFunction),
+            10 => Ok(NodeKind::Operator),
+            _ => Err(UnknownKind(code)),
         }
     }
 }
 
-/// The kinds of literals.
-#[derive(Clone, Copy)]
+/// The kinds of literals, each with its number of the layout.
+#[derive(Clone, Copy, Debug, PartialEq, Eq)]
 pub enum LiteralKind {
     Null,
     Text,
     Integer,
 }
 
-impl LiteralKind {
-    /// The kind that a number of the layout stands for. Each literal of a sheet has one.
-    pub fn of(code: u8) -> Option<LiteralKind>
-        ensures { result ≡ literal_kind_of code }
-    {
+impl TryFrom<u8> for LiteralKind {
+    type Error = UnknownKind;
+
+    ghost try_from_gives = { λ code kind. result_ok kind ≡ literal_kind_of code };
+
+    fn try_from(code: u8) -> Result<LiteralKind, UnknownKind> {
         match code {
-            0 => Some(LiteralKind::Null),
-            1 => Some(LiteralKind::Text),
-            2 => Some(LiteralKind::Integer),
-            _ => None,
+            0 => Ok(LiteralKind::Null),
+            1 => Ok(LiteralKind::Text),
+            2 => Ok(LiteralKind::Integer),
+            _ => Err(UnknownKind(code)),
         }
     }
 }

@@ -1,6 +1,7 @@
 //! Where the sections of a sheet lie.
 ghost use Rattle.std.specs.Prelude.{◌≡◌, ◌<◌, ◌≤◌, length, Some, None, MatchResult};
-ghost use Rattle.format.specs.Layouts.{section_at, layout_of, lies, few, extents_fault, counts_fault, layout_fault};
+ghost use Rattle.std.specs.Result.{result_err};
+ghost use Rattle.format.specs.Layouts.{section_at, layout_of, lies, lies_at, few, extents_fault, counts_fault, layout_fault};
 
 use crate::fault::Fault;
 use crate::read::{read_u16, read_u32};
@@ -37,18 +38,6 @@ pub struct Layout {
 }
 
 impl Section {
-    // The section of a number, counted from 0.
-    fn read(bytes: &[u8], number: usize) -> Section
-        requires header { 50 ≤ length bytes.now }
-        requires there { number < 8 }
-        ensures { result ≡ section_at bytes.now number }
-    {
-        Section {
-            count: read_u16(bytes, 2 + 6 * number),
-            start: read_u32(bytes, 4 + 6 * number),
-        }
-    }
-
     // Whether the records lie behind the header and inside so many bytes.
     fn lies_inside(self, bytes: usize, width: usize) -> bool
         requires { 0 < width }
@@ -60,54 +49,83 @@ impl Section {
     }
 }
 
-// The first section that does not lie where it may.
-fn first_outside(bytes: &[u8]) -> Option<Fault>
-    requires { 50 ≤ length bytes.now }
-    ensures { result ≡ extents_fault bytes.now }
-{
-    for number in 0..8 {
-        if !Section::read(bytes, number).lies_inside(bytes.len(), WIDTHS[number]) {
-            return Some(Fault::BadExtent {
-                section: number as u16 + 1,
-            });
-        }
-    }
-    None
+/// Bytes that have a whole header.
+#[derive(Clone, Copy)]
+struct Header<'a> {
+    bytes: &'a [u8],
+    ghost whole: { 50 ≤ length bytes.now },
 }
 
-// The first section that has too many records.
-fn first_too_long(bytes: &[u8]) -> Option<Fault>
-    requires { 50 ≤ length bytes.now }
-    ensures { result ≡ counts_fault bytes.now }
-{
-    for number in 0..8 {
-        if Section::read(bytes, number).count > LIMITS[number] {
-            return Some(Fault::TooMany {
-                section: number as u16 + 1,
-            });
+// A number below 8 is asked for in three places; a type for such numbers would be no plainer than that.
+impl Header<'_> {
+    // The section of a number, counted from 0.
+    fn section(&self, number: usize) -> Section
+        requires { number < 8 }
+        ensures { result ≡ section_at self.now.bytes.now number }
+    {
+        Section {
+            count: read_u16(self.bytes, 2 + 6 * number),
+            start: read_u32(self.bytes, 4 + 6 * number),
         }
     }
-    None
+
+    fn lies_inside(&self, number: usize) -> bool
+        requires { number < 8 }
+        ensures { result ≡ lies_at self.now.bytes.now number }
+    {
+        self.section(number)
+            .lies_inside(self.bytes.len(), WIDTHS[number])
+    }
+
+    fn is_short(&self, number: usize) -> bool
+        requires { number < 8 }
+        ensures { result ≡ few self.now.bytes.now number }
+    {
+        self.section(number).count <= LIMITS[number]
+    }
+
+    // Refuses the first section that does not lie where it may. The next one differs from it in the test and in the fault; a third
+    // function with both as closures would be no plainer.
+    fn check_extents(&self) -> Result<(), Fault>
+        ensures { result_err result ≡ extents_fault self.now.bytes.now }
+    {
+        match (0..8).find(|number| !self.lies_inside(*number as usize)) {
+            Some(number) => Err(Fault::BadExtent {
+                section: number + 1,
+            }),
+            None => Ok(()),
+        }
+    }
+
+    // Refuses the first section that has too many records.
+    fn check_counts(&self) -> Result<(), Fault>
+        ensures { result_err result ≡ counts_fault self.now.bytes.now }
+    {
+        match (0..8).find(|number| !self.is_short(*number as usize)) {
+            Some(number) => Err(Fault::TooMany {
+                section: number + 1,
+            }),
+            None => Ok(()),
+        }
+    }
+
+    fn layout(&self) -> Layout
+        ensures { result ≡ layout_of self.now.bytes.now }
+    {
+        Layout {
+            names: self.section(0),
+            types: self.section(1),
+            roots: self.section(2),
+            leaves: self.section(3),
+            parts: self.section(4),
+            elements: self.section(5),
+            nodes: self.section(6),
+            expressions: self.section(7),
+        }
+    }
 }
 
 impl Layout {
-    // Reads the header of bytes that have one.
-    fn of(bytes: &[u8]) -> Layout
-        requires { 50 ≤ length bytes.now }
-        ensures { result ≡ layout_of bytes.now }
-    {
-        Layout {
-            names: Section::read(bytes, 0),
-            types: Section::read(bytes, 1),
-            roots: Section::read(bytes, 2),
-            leaves: Section::read(bytes, 3),
-            parts: Section::read(bytes, 4),
-            elements: Section::read(bytes, 5),
-            nodes: Section::read(bytes, 6),
-            expressions: Section::read(bytes, 7),
-        }
-    }
-
     // Reads the header, and sees that every section lies where it may and is not too long.
     pub(crate) fn read(bytes: &[u8]) -> Result<Layout, Fault>
         ensures { MatchResult result (λ l. (layout_fault bytes.now ≡ None) × (l ≡ layout_of bytes.now)) (λ e. layout_fault bytes.now ≡ Some e) }
@@ -115,12 +133,9 @@ impl Layout {
         if bytes.len() < HEADER || bytes.len() > MAX_BYTES || read_u16(bytes, 0) != FORM {
             return Err(Fault::BadExtent { section: 0 });
         }
-        if let Some(fault) = first_outside(bytes) {
-            return Err(fault);
-        }
-        if let Some(fault) = first_too_long(bytes) {
-            return Err(fault);
-        }
-        Ok(Layout::of(bytes))
+        let header = Header { bytes };
+        header.check_extents()?;
+        header.check_counts()?;
+        Ok(header.layout())
     }
 }

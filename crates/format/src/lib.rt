@@ -10,12 +10,13 @@ pub mod inner;
 mod kinds;
 mod layout;
 mod opening;
+mod opens;
 mod read;
 mod records;
 mod search;
 
 pub use fault::Fault;
-pub use kinds::{LiteralKind, NodeKind, TypeKind};
+pub use kinds::{LiteralKind, NodeKind, TypeKind, UnknownKind};
 pub use records::{
     ElementRecord, ExpressionRecord, LeafRecord, NameRef, NodeRecord, RootRecord, TypeRecord,
 };

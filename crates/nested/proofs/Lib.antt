@@ -1,9 +1,8 @@
+pub mod Placed
 pub mod FairTypes
 pub mod Counting
 pub mod PairViews
-pub mod Siblings
 pub mod Finding
-pub mod Copying
 pub mod KeptLeaves
 pub mod ClipTurns
 pub mod ClipWalks

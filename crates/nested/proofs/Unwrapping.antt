@@ -1,38 +1,28 @@
 -- Down through wrappers to what they are around. Assumes nothing.
-use Rattle.std.proofs.Common.{◌≡◌, ℕ, ◌+◌, ◌<◌, eqb, ◌⊎◌, length, sym, ap, ◌∙◌, arith}
-use Rattle.std.proofs.lemmas.Bool.{eq-eqb, ne_eqb}
+use Rattle.std.proofs.Common.{◌≡◌, ℕ, ◌+◌, ◌<◌, length, Some, sym, ap, ◌∙◌, arith}
 use Rattle.rules.specs.Types.{contains_struct}
-use Rattle.format.specs.declared.records.TypeRecord.{TypeRecord}
+use Rattle.format.specs.declared.kinds.TypeKind.{TypeKind}
+use Rattle.format.specs.declared.kinds.TypeKind.TheVariants.{Leaf, Struct}
+use Rattle.format.specs.Kinds.{type_kind_of}
 use Rattle.sheet.specs.declared.sheet.Sheet.{Sheet}
 use Rattle.sheet.specs.Seen.{types_in}
 use Rattle.sheet.specs.SheetExpressions.{type_at_place}
 use Rattle.sheet.proofs.Readers.{type_record_at, type_span, is_leaf, is_struct, is_wrap, type_view}
-use Rattle.nested.proofs.Counting.{wrapper_high}
-
--- the type at a place is around the one at another, or is it
-pub record Around (s : Sheet) (place here : ℕ) : Type 0 where
-  pub there : here < length (types_in s)
-  pub same : contains_struct (type_at_place s place) ≡ contains_struct (type_at_place s here)
 
 -- the item of a wrapper
-pub record Item (s : Sheet) (place here : ℕ) : Type 0 where
-  pub fewer : type_span s (here + 1) < type_span s here
-  pub on : Around s place (here + 1)
+pub record Item (s : Sheet) (p : ℕ) : Type 0 where
+  pub there : p + 1 < length (types_in s)
+  pub fewer : type_span s (p + 1) < type_span s p
+  pub same : contains_struct (type_at_place s p) ≡ contains_struct (type_at_place s (p + 1))
 
-module _ (s : Sheet) (place here : ℕ) (i : Around s place here) (t : TypeRecord) (et : t ≡ type_record_at s here) where
-  kind_is : t.kind ≡ (type_record_at s here).kind
-  kind_is = ap (λ (r : TypeRecord). r.kind) et
+module _ (s : Sheet) (p : ℕ) (h : p < length (types_in s)) (k : TypeKind) (e : type_kind_of (type_record_at s p).kind ≡ Some k) where
+  -- the kind, where the number is known
+  kind_is : {n : ℕ} → (type_record_at s p).kind ≡ n → Some k ≡ type_kind_of n
+  kind_is z = sym e ∙ ap type_kind_of z
 
-  pub no_wrapper : (t.kind ≡ 1) ⊎ ((t.kind ≡ 1 → ⊥) × (t.kind ≡ 2)) → eqb t.kind 2 ≡ contains_struct (type_at_place s place)
-  no_wrapper e = elim (type_view s here i.there) [
-    | is_leaf k c w q ↦ ne_eqb t.kind 2 (λ z. omega (arith, kind_is, k)) ∙ sym (i.same ∙ ap contains_struct q)
-    | is_struct k q ↦ eq-eqb t.kind 2 (kind_is ∙ k) ∙ sym (i.same ∙ ap contains_struct q)
-    | is_wrap w k d c there spans q ↦ absurd (omega (arith, kind_is, k, wrapper_high w, e))
-  ]
-
-  pub item : (t.kind ≡ 1 → ⊥) → (t.kind ≡ 2 → ⊥) → Item s place here
-  item a b = elim (type_view s here i.there) [
-    | is_leaf k c w q ↦ absurd (a (kind_is ∙ k))
-    | is_struct k q ↦ absurd (b (kind_is ∙ k))
-    | is_wrap w k d c there spans q ↦ record { fewer = omega (arith, spans); on = record { there = there; same = i.same ∙ ap contains_struct q } }
+  pub item : (k ≡ Leaf → ⊥) → (k ≡ Struct → ⊥) → Item s p
+  item a b = elim (type_view s p h) [
+    | is_leaf z c w q ↦ let f : Some k ≡ Some Leaf = kind_is z in absurd (a (cc))
+    | is_struct z q ↦ let f : Some k ≡ Some Struct = kind_is z in absurd (b (cc))
+    | is_wrap w z d c there spans q ↦ record { there = there; fewer = omega (arith, spans); same = ap contains_struct q }
   ]

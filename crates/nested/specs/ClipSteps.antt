@@ -1,20 +1,17 @@
 -- What a step of a clip leaves. Assumes nothing.
-use Rattle.std.specs.Prelude.{◌≡◌, ℕ, ◌+◌, ◌++◌, length, take}
+use Rattle.std.specs.Prelude.{◌≡◌, ℕ, ◌+◌, ◌++◌}
 use Rattle.rules.specs.Keeping.{Keep, kept_leaves}
-use Rattle.rules.specs.Trees.{Tree, preorder, size}
+use Rattle.rules.specs.Trees.{Tree, preorder}
 use Rattle.rules.specs.Types.{Ty, leaf_count_of}
 use Rattle.format.specs.declared.records.TypeRecord.{TypeRecord}
 use Rattle.sheet.specs.KeptTrees.{kept_tree}
-use Rattle.nested.specs.declared.keeping.Progress.{Progress}
 use Rattle.nested.specs.declared.tables.ClipTable.{ClipTable}
 
 -- A type was passed, and what is kept of it was added to a table: the numbers of its leaves, and the records of its tree.
-pub record Added (k : Keep) (t : Ty) (tree : Tree TypeRecord) (was : Progress) (before : ClipTable) (is : Progress) (after : ClipTable) : Type 0 where
-  pub passed : is.leaf ≡ was.leaf + leaf_count_of t
-  pub kept : is.kept ≡ was.kept + length (kept_leaves k was.leaf t)
-  pub offsets : take is.kept after.offsets ≡ take was.kept before.offsets ++ kept_leaves k was.leaf t
-  pub written : is.written ≡ was.written + size (kept_tree k tree)
-  pub types : take is.written after.types ≡ take was.written before.types ++ preorder (kept_tree k tree)
+pub record Added (k : Keep) (t : Ty) (tree : Tree TypeRecord) (was : ℕ) (before : ClipTable) (is : ℕ) (after : ClipTable) : Type 0 where
+  pub passed : is ≡ was + leaf_count_of t
+  pub offsets : after.offsets.items ≡ before.offsets.items ++ kept_leaves k was t
+  pub types : after.types.items ≡ before.types.items ++ preorder (kept_tree k tree)
 
 -- a head above other children than before
 abbrev pub head_of : TypeRecord → (children span : ℕ) → TypeRecord

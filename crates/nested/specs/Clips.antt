@@ -1,5 +1,5 @@
 -- What a clip comes to, with what it wrote. Assumes nothing.
-use Rattle.std.specs.Prelude.{ℕ, cond, List, take, Some, None, Option}
+use Rattle.std.specs.Prelude.{ℕ, cond, List, Some, None, Option}
 use Rattle.rules.specs.Keeping.{Keep, kept_leaves, clipped, is_clipped}
 use Rattle.rules.specs.Trees.{preorder}
 use Rattle.format.specs.declared.records.TypeRecord.{TypeRecord}
@@ -25,4 +25,4 @@ clip_in s place goal =
 -- a clip with what stands in its table
 abbrev pub shown : Option Clip → ClipTable → Option (List ℕ × List TypeRecord)
 shown None table = None
-shown (Some c) table = Some (take c.leaves table.offsets, take c.types table.types)
+shown (Some c) table = Some (table.offsets.items, table.types.items)

@@ -3,3 +3,4 @@ pub mod PairKinds
 pub mod Found
 pub mod ClipSteps
 pub mod Alike
+pub mod SameRecords

@@ -3,13 +3,12 @@
 #![tactic(auto)]
 
 mod keeping;
-mod kinds;
 mod nested_schema_pruning;
 mod pairs;
 mod records;
 mod tables;
+mod type_pair;
 
-pub use nested_schema_pruning::{
-    clip_for_cast, contains_struct, count_leaves, is_same_type, requires_nested_struct_cast,
-};
+pub use nested_schema_pruning::{contains_struct, count_leaves};
 pub use tables::{Clip, ClipTable};
+pub use type_pair::TypePair;

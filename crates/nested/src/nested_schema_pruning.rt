@@ -1,111 +1,66 @@
 //! Ported from `src/nested_schema_pruning.rs` of the crate datafusion-datasource-parquet 55.0.0, changed: types are places in
 //! the table of a sheet, and a clip is written to a table of its own.
-ghost use Rattle.std.specs.Prelude.{◌≡◌, ◌+◌, ◌<◌, ◌≤◌, length, is_err, OnOk};
+ghost use Rattle.std.specs.Prelude.{◌≡◌, ◌+◌, ◌-◌, ◌≤◌, ◌==◌, count_by, is_err, slice_index_or, OnOk};
+ghost use Rattle.std.specs.List.{range_with_len, list_all};
+ghost use Rattle.format.specs.Records.{no_type};
+ghost use Rattle.arrayvec.specs.ArrayVec.{array_vec_len};
+ghost use Rattle.sheet.specs.Seen.{types_in};
 ghost use Rattle.std.specs.Option.{option_map};
 ghost use Rattle.rules.specs.Findings.{is_nested_cast};
 ghost use Rattle.rules.specs.Keeping.{is_void};
 ghost use Rattle.rules.specs.Trees.{size};
 ghost use Rattle.rules.specs.Types.{leaf_count_of, contains_struct, same_type, type_named};
-ghost use Rattle.format.specs.Records.{name_bytes};
-ghost use Rattle.sheet.specs.Seen.{names_in, types_in};
 ghost use Rattle.sheet.specs.SheetTrees.{type_tree};
 ghost use Rattle.sheet.specs.SheetExpressions.{type_at_place};
-ghost use Rattle.nested.specs.Clips.{clip_at, clip_in, shown};
-ghost use Rattle.nested.specs.ClipSteps.{Added};
 ghost use Rattle.nested.specs.Found.{fields_under, Inside};
 
-use crate::keeping::{Progress, keep_entire};
-use crate::kinds::{LEAF, STRUCT};
-use crate::pairs::{Pair, pair_up};
-use crate::records::{headed, is_same_field, is_same_top};
+use crate::keeping::{keep_entire, set_head};
+use crate::pairs::Pair;
+use crate::records::{is_leaf, is_same_field, is_same_top, record_behind};
 use crate::tables::{Clip, ClipTable};
-use sheet::{NameRef, Sheet};
+use crate::type_pair::TypePair;
+use sheet::inner::TypeRef;
+use sheet::{TypeKind, TypeRecord};
 
-/// How many leaves the type at a place has.
-pub fn count_leaves(sheet: &Sheet, place: usize) -> usize
-    requires { place < length (types_in sheet.now) }
-    ensures { result ≡ leaf_count_of (type_at_place sheet.now place) }
+/// How many leaves a type has.
+pub fn count_leaves(here: TypeRef<'_>) -> usize
+    ensures { result ≡ leaf_count_of (type_at_place here.entry.sheet.now here.entry.place) }
 {
-    let span = sheet.type_record(place).span as usize;
-    let mut count = 0;
-    for k in 0..span {
-        if sheet.type_record(place + k).kind == LEAF {
-            count += 1;
-        }
-    }
-    count
+    leaves_among(here, here.record().span as usize)
 }
 
-/// Whether the type at a place is a Struct, or wrapped around one.
-pub fn contains_struct(sheet: &Sheet, place: usize) -> bool
-    requires { place < length (types_in sheet.now) }
-    ensures { result ≡ contains_struct (type_at_place sheet.now place) }
+// How many leaves are among so many records from the top of a type on.
+fn leaves_among(here: TypeRef<'_>, span: usize) -> usize
+    ensures { result ≡ count_by (λ k. (slice_index_or (types_in here.entry.sheet.now) (here.entry.place + k) no_type).kind == 1) (range_with_len 0 span) }
 {
-    let mut here = place;
+    (0..span)
+        .filter(|k| is_leaf(record_behind(here, *k)))
+        .count()
+}
+
+/// Whether a type is a Struct, or wrapped around one.
+pub fn contains_struct(here: TypeRef<'_>) -> bool
+    ensures { result ≡ contains_struct (type_at_place here.entry.sheet.now here.entry.place) }
+{
+    let mut at = here;
     loop {
-        let kind = sheet.type_record(here).kind;
-        if kind == LEAF || kind == STRUCT {
-            return kind == STRUCT;
-        }
-        here += 1;
-    }
-}
-
-/// Whether the types at two places are the same. Where one is shorter, a record before its end differs.
-pub fn is_same_type(sheet: &Sheet, one: usize, other: usize) -> bool
-    requires here { one < length (types_in sheet.now) }
-    requires there { other < length (types_in sheet.now) }
-    ensures { result ≡ same_type (type_at_place sheet.now one) (type_at_place sheet.now other) }
-{
-    let top = sheet.type_record(one);
-    if !is_same_top(top, sheet.type_record(other)) {
-        return false;
-    }
-    for k in 1..top.span as usize {
-        let first = sheet.type_record(one + k);
-        let second = sheet.type_record(other + k);
-        if !is_same_field(sheet, first, second) {
-            return false;
-        }
-    }
-    true
-}
-
-/// Whether a cast from the type at a place to the one at `goal` is looked into: Struct to Struct, or through lists of one
-/// kind to such.
-pub fn requires_nested_struct_cast(sheet: &Sheet, place: usize, goal: usize) -> bool
-    requires here { place < length (types_in sheet.now) }
-    requires there { goal < length (types_in sheet.now) }
-    ensures { result ≡ is_nested_cast (type_at_place sheet.now place) (type_at_place sheet.now goal) }
-{
-    let mut here = place;
-    let mut there = goal;
-    loop {
-        match pair_up(sheet.type_record(here).kind, sheet.type_record(there).kind) {
-            Pair::Structs => return true,
-            Pair::Others => return false,
-            Pair::Lists => {
-                here += 1;
-                there += 1;
-            }
+        match at.kind() {
+            TypeKind::Struct => return true,
+            TypeKind::Leaf => return false,
+            _ => at = TypeRef::at(at.sheet(), at.place() + 1),
         }
     }
 }
 
-/// The place of the first field that bears a name, of the Struct at a place.
-pub(crate) fn find_field(sheet: &Sheet, place: usize, name: NameRef) -> Option<usize>
-    requires { place < length (types_in sheet.now) }
-    ensures found { option_map (type_at_place sheet.now) result ≡ type_named (name_bytes (names_in sheet.now) name) (fields_under sheet.now place) }
-    ensures inside { Inside sheet.now result }
+/// The place of the first field that bears a name, of a Struct.
+pub(crate) fn find_field(here: TypeRef<'_>, name: &[u8]) -> Option<usize>
+    ensures found { option_map (type_at_place here.entry.sheet.now) result ≡ type_named name.now (fields_under here.entry.sheet.now here.entry.place) }
+    ensures inside { Inside here.entry.sheet.now result }
 {
-    let children = sheet.type_record(place).children;
-    let mut child = place + 1;
-    for _k in 0..children {
-        let field = sheet.type_record(child);
-        if sheet.name(field.name) == sheet.name(name) {
-            return Some(child);
+    for child in here.children() {
+        if child.name() == name {
+            return Some(child.place());
         }
-        child += field.span as usize;
     }
     None
 }
@@ -114,82 +69,105 @@ pub(crate) fn find_field(sheet: &Sheet, place: usize, name: NameRef) -> Option<u
 #[derive(Clone, Copy)]
 pub(crate) struct Void;
 
-/// Adds to a table what a cast to the type at `goal` needs of the type at a place.
-pub(crate) fn clip(
-    sheet: &Sheet,
-    place: usize,
-    goal: usize,
-    table: &mut ClipTable,
-    progress: &mut Progress,
-) -> Result<(), Void>
-    requires here { place < length (types_in sheet.now) }
-    requires there { goal < length (types_in sheet.now) }
-    requires room { progress.old.kept + leaf_count_of (type_at_place sheet.now place) ≤ 2048 }
-    requires low { progress.old.leaf + leaf_count_of (type_at_place sheet.now place) ≤ 2048 }
-    requires space { progress.old.written + size (type_tree sheet.now place) ≤ 2048 }
-    ensures refuses { is_err result ≡ is_void (clip_at sheet.now place goal) (type_at_place sheet.now place) }
-    ensures adds { OnOk result (Added (clip_at sheet.now place goal) (type_at_place sheet.now place) (type_tree sheet.now place) progress.old table.old progress.new table.new) }
-{
-    let here = sheet.type_record(place);
-    let head = progress.written;
-    match pair_up(here.kind, sheet.type_record(goal).kind) {
-        Pair::Others => keep_entire(sheet, place, table, progress),
-        Pair::Lists => {
-            progress.written += 1;
-            clip(sheet, place + 1, goal + 1, table, progress)?;
-            table.types[head] = headed(here, 1, progress.written - head);
+impl TypePair<'_> {
+    ghost use Rattle.nested.specs.SameRecords.{same_at};
+    ghost use Rattle.nested.specs.Clips.{clip_at, clip_in, shown};
+    ghost use Rattle.nested.specs.ClipSteps.{Added};
+
+    /// Whether the two types are the same. Where one is shorter, a record before its end differs.
+    pub fn is_same_type(self) -> bool
+        ensures { result ≡ same_type (type_at_place self.entry.sheet.now self.entry.place) (type_at_place self.entry.sheet.now self.entry.goal) }
+    {
+        let top = self.sheet.record::<TypeRecord>(self.place);
+        is_same_top(top, self.sheet.record(self.goal)) && self.is_same_below(top.span as usize)
+    }
+
+    // Whether the records below the tops are the same, up to the end of a span.
+    fn is_same_below(self, span: usize) -> bool
+        ensures { result ≡ list_all (same_at self.entry.sheet.now self.entry.place self.entry.goal) (range_with_len 1 (span - 1)) }
+    {
+        (1..span).all(|k| self.is_same_behind(k))
+    }
+
+    // Whether the records so many places behind the tops are the same.
+    fn is_same_behind(self, k: usize) -> bool
+        ensures { result ≡ same_at self.entry.sheet.now self.entry.place self.entry.goal k }
+    {
+        let first = record_behind(self.first(), k);
+        let second = record_behind(self.second(), k);
+        is_same_field(self.sheet, first, second)
+    }
+
+    /// Whether a cast from the first type to the second is looked into: Struct to Struct, or through lists of one kind to
+    /// such.
+    pub fn requires_nested_struct_cast(self) -> bool
+        ensures { result ≡ is_nested_cast (type_at_place self.entry.sheet.now self.entry.place) (type_at_place self.entry.sheet.now self.entry.goal) }
+    {
+        let mut pair = self;
+        loop {
+            match pair.kinds() {
+                Pair::Structs => return true,
+                Pair::Others => return false,
+                Pair::Lists => pair = TypePair::of(pair.sheet, pair.place + 1, pair.goal + 1),
+            }
         }
-        Pair::Structs => {
-            // The head is written last, once its children and its span are known.
-            progress.written += 1;
-            let mut children = 0;
-            let mut child = place + 1;
-            for _k in 0..here.children {
-                let field = sheet.type_record(child);
-                match find_field(sheet, goal, field.name) {
-                    None => progress.leaf += count_leaves(sheet, child),
-                    Some(wanted) => {
-                        let before = progress.kept;
-                        clip(sheet, child, wanted, table, progress)?;
-                        if progress.kept == before {
-                            return Err(Void);
+    }
+
+    // Adds to a table what a cast to the second type needs of the first. `leaf` counts the leaves that the clip passed.
+    fn clip(self, table: &mut ClipTable, leaf: &mut usize) -> Result<(), Void>
+        requires room { array_vec_len table.old.offsets + leaf_count_of (type_at_place self.sheet.now self.place) ≤ 2048 }
+        requires low { leaf.old + leaf_count_of (type_at_place self.sheet.now self.place) ≤ 2048 }
+        requires space { array_vec_len table.old.types + size (type_tree self.sheet.now self.place) ≤ 2048 }
+        ensures refuses { is_err result ≡ is_void (clip_at self.entry.sheet.now self.entry.place self.entry.goal) (type_at_place self.entry.sheet.now self.entry.place) }
+        ensures adds { OnOk result (Added (clip_at self.entry.sheet.now self.entry.place self.entry.goal) (type_at_place self.entry.sheet.now self.entry.place) (type_tree self.entry.sheet.now self.entry.place) leaf.old table.old leaf.new table.new) }
+    {
+        let sheet = self.sheet;
+        let here = sheet.record::<TypeRecord>(self.place);
+        let head = table.types.len();
+        match self.kinds() {
+            Pair::Others => keep_entire(self.first(), table, leaf),
+            Pair::Lists => {
+                table.types.push(here);
+                TypePair::of(sheet, self.place + 1, self.goal + 1).clip(table, leaf)?;
+                set_head(&mut table.types, head, here, 1);
+            }
+            Pair::Structs => {
+                table.types.push(here);
+                let mut children = 0;
+                for child in self.first().children() {
+                    match find_field(self.second(), child.name()) {
+                        None => *leaf += count_leaves(child),
+                        Some(wanted) => {
+                            let before = table.offsets.len();
+                            TypePair::of(sheet, child.place(), wanted).clip(table, leaf)?;
+                            if table.offsets.len() == before {
+                                return Err(Void);
+                            }
+                            children += 1;
                         }
-                        children += 1;
                     }
                 }
-                child += field.span as usize;
+                set_head(&mut table.types, head, here, children);
             }
-            table.types[head] = headed(here, children, progress.written - head);
         }
+        Ok(())
     }
-    Ok(())
-}
 
-/// Clips the type at a place to what a cast to the type at `goal` needs of it. None where a field that the cast asks for
-/// keeps no leaf, or where no leaf is kept, or all are.
-pub fn clip_for_cast(
-    sheet: &Sheet,
-    place: usize,
-    goal: usize,
-    table: &mut ClipTable,
-) -> Option<Clip>
-    requires here { place < length (types_in sheet.now) }
-    requires there { goal < length (types_in sheet.now) }
-    ensures { shown result table.new ≡ clip_in sheet.now place goal }
-{
-    let mut progress = Progress {
-        leaf: 0,
-        kept: 0,
-        written: 0,
-    };
-    if let Err(Void) = clip(sheet, place, goal, table, &mut progress) {
-        return None;
+    /// Clips the first type to what a cast to the second needs of it, in a table that is cleared first. None where a field
+    /// that the cast asks for keeps no leaf, or where no leaf is kept, or all are.
+    pub fn clip_for_cast(self, table: &mut ClipTable) -> Option<Clip>
+        ensures { shown result table.new ≡ clip_in self.entry.sheet.now self.entry.place self.entry.goal }
+    {
+        table.offsets.clear();
+        table.types.clear();
+        let mut leaves = 0;
+        if let Err(Void) = self.clip(table, &mut leaves) {
+            return None;
+        }
+        let kept = table.offsets.len();
+        if kept == 0 || kept == leaves {
+            return None;
+        }
+        Some(Clip)
     }
-    if progress.kept == 0 || progress.kept == progress.leaf {
-        return None;
-    }
-    Some(Clip {
-        leaves: progress.kept,
-        types: progress.written,
-    })
 }

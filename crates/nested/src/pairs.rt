@@ -1,8 +1,8 @@
 //! Pairs of types, the one that is read and the one that a cast asks for.
-ghost use Rattle.std.specs.Prelude.{◌≡◌};
+ghost use Rattle.std.specs.Prelude.{◌≡◌, Some};
 ghost use Rattle.nested.specs.PairKinds.{pair_of};
 
-use crate::kinds::{LARGE_LIST, LIST, STRUCT};
+use sheet::TypeKind;
 
 /// Two Structs, whose fields meet by name; two lists of one kind, whose items meet; or two others, which a cast does not look
 /// into.
@@ -14,14 +14,13 @@ pub(crate) enum Pair {
 }
 
 /// The pair that two kinds are.
-pub(crate) fn pair_up(here: u8, there: u8) -> Pair
-    ensures { result ≡ pair_of here there }
+pub(crate) fn pair_up(here: TypeKind, there: TypeKind) -> Pair
+    ensures { result ≡ pair_of (Some here) (Some there) }
 {
-    if here == STRUCT && there == STRUCT {
-        Pair::Structs
-    } else if here == there && (here == LIST || here == LARGE_LIST) {
-        Pair::Lists
-    } else {
-        Pair::Others
+    match (here, there) {
+        (TypeKind::Struct, TypeKind::Struct) => Pair::Structs,
+        (TypeKind::List, TypeKind::List) | (TypeKind::LargeList, TypeKind::LargeList) =>
+            Pair::Lists,
+        _ => Pair::Others,
     }
 }

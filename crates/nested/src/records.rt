@@ -1,11 +1,12 @@
 //! Type records: the heads of clipped types, and which records say the same.
-ghost use Rattle.std.specs.Prelude.{◌≡◌, ◌<◌};
-ghost use Rattle.sheet.specs.Seen.{names_in};
+ghost use Rattle.std.specs.Prelude.{◌≡◌, ◌+◌, ◌<◌, ◌==◌, slice_index_or};
+ghost use Rattle.format.specs.Records.{no_type};
+ghost use Rattle.sheet.specs.Seen.{names_in, types_in};
 ghost use Rattle.nested.specs.ClipSteps.{head_of};
 ghost use Rattle.nested.specs.Alike.{used_detail, same_top, same_field};
 
-use crate::kinds::{FIXED_SIZE_LIST, LEAF, MAP};
-use sheet::{Sheet, TypeRecord};
+use sheet::inner::TypeRef;
+use sheet::{Sheet, TypeKind, TypeRecord};
 
 /// The head of a type that has other children than before.
 pub(crate) fn headed(here: TypeRecord, children: u16, span: usize) -> TypeRecord
@@ -20,17 +21,31 @@ pub(crate) fn headed(here: TypeRecord, children: u16, span: usize) -> TypeRecord
 }
 
 // The detail of a type whose kind uses one.
-fn used_detail(record: TypeRecord) -> u16
-    ensures { result ≡ used_detail «record» }
+fn used_detail(one: TypeRecord) -> u16
+    ensures { result ≡ used_detail one }
 {
-    if record.kind == LEAF || record.kind == FIXED_SIZE_LIST || record.kind == MAP {
-        record.detail
-    } else {
-        0
+    match TypeKind::try_from(one.kind) {
+        Ok(TypeKind::Leaf | TypeKind::FixedSizeList | TypeKind::Map) => one.detail,
+        _ => 0,
     }
 }
 
-/// Whether two types are the same on top: in kind, number of children and used detail.
+/// Whether a record is a leaf's.
+pub(crate) fn is_leaf(one: TypeRecord) -> bool
+    ensures { result ≡ (one.kind == 1) }
+{
+    matches!(TypeKind::try_from(one.kind), Ok(TypeKind::Leaf))
+}
+
+/// The record so many places behind the top of a type, and the blank record beyond the table.
+pub(crate) fn record_behind(here: TypeRef<'_>, k: usize) -> TypeRecord
+    ensures { result ≡ slice_index_or (types_in here.entry.sheet.now) (here.entry.place + k) no_type }
+{
+    here.sheet().record(here.place().saturating_add(k))
+}
+
+/// Whether two types are the same on top: in kind, number of children and used detail. No derive says that: some kinds do not
+/// use their detail.
 pub(crate) fn is_same_top(one: TypeRecord, other: TypeRecord) -> bool
     ensures { result ≡ same_top one other }
 {

@@ -1,7 +1,9 @@
 -- Types of a sheet, counted and copied to a buffer. Assumes nothing.
-use Rattle.std.proofs.Common.{◌≡◌, ℕ, ◌+◌, ◌*◌, ◌<◌, ◌≤◌, Bool, true, false, cond, List, [], ◌∷◌, ◌++◌, length, get_or, take, drop, set, sym, refl, ap, ◌∙◌, append_assoc, append-nil, arith, length-append, length-drop}
+use Rattle.std.proofs.Common.{◌≡◌, ℕ, zero, suc, ◌+◌, ◌*◌, ◌<◌, ◌≤◌, Bool, true, false, cond, List, [], ◌∷◌, ◌++◌, length, get_or, take, drop, sym, refl, ap, ◌∙◌, append_assoc, append-nil, arith, length-append}
 use lib.ListN.{length-map}
-use Rattle.std.proofs.lemmas.List.{at_drop_more, at_drop_all, take_more_set, take_more, get_or-drop, get_or-map}
+use Rattle.std.proofs.lemmas.List.{at_drop_more, at_drop_all, get_or-map}
+use Rattle.std.proofs.lemmas.List.Sums.{sum_by-cons}
+use Rattle.std.specs.List.{range_with_len, sum_by}
 use Rattle.rules.specs.RootPlan.{is_listed, fields_of_listed}
 use Rattle.rules.specs.Trees.{Tree, node, none, preorder, size}
 use Rattle.rules.proofs.Forests.{length-preorder}
@@ -9,10 +11,10 @@ use Rattle.format.specs.declared.records.RootRecord.{RootRecord}
 use Rattle.format.specs.declared.records.TypeRecord.{TypeRecord}
 use Rattle.format.specs.Records.{no_root, no_type}
 use Rattle.sheet.specs.declared.sheet.Sheet.{Sheet}
-use Rattle.sheet.specs.Seen.{roots_in, types_in}
+use Rattle.sheet.specs.Seen.{roots_in}
 use Rattle.sheet.specs.SheetTrees.{type_tree, root_trees}
-use Rattle.sheet.proofs.Sheets.{few_types, root_place, type_size, type_within, type_records}
-use Rattle.planner.specs.RootPlans.{listed_fields, field_records, all_records}
+use Rattle.sheet.proofs.Sheets.{few_types, few_roots, root_place, type_size, type_within}
+use Rattle.planner.specs.RootPlans.{listed_fields, field_records, all_records, span_of}
 
 abbrev pub blank_tree : Tree TypeRecord
 blank_tree = node no_type none
@@ -40,56 +42,28 @@ module _ (s : Sheet) where
   rest_none : (r : ℕ) → length (roots_in s) ≤ r → rest_records r ≡ []
   rest_none r h = at_drop_all field_records (root_trees s) r (omega (arith, tree_count))
 
-  -- how many records the roots before r have, beside those from r on
-  pub record Summed (r sum : ℕ) : Type 0 where
-    pub total : sum + length (rest_records r) ≡ length (all_records s)
-    pub few : sum ≤ 2048 * r
+  -- how many records the roots from r on have
+  span_is : (r : ℕ) → r < length (roots_in s) → span_of s r ≡ size (type_tree s (place_of r))
+  span_is r h = type_size s (place_of r) (root_place s r h)
 
-  pub none_summed : Summed 0 0
-  none_summed = record { total = omega arith; few = omega arith }
+  spans : (r n : ℕ) → r + n ≡ length (roots_in s) → sum_by (span_of s) (range_with_len r n) ≡ length (rest_records r)
+  spans r zero e = sym (ap length (rest_none r (omega arith)))
+  spans r (suc n) e =
+      sum_by-cons (span_of s) r (range_with_len (r + 1) n)
+      ∙ ap (λ m. span_of s r + m) (spans (r + 1) n (omega arith))
+      ∙ omega (arith, span_is r (omega arith), rest_length r (omega arith))
 
-  pub one_summed : (r sum span : ℕ) → r < length (roots_in s) → span ≡ (get_or (types_in s) (place_of r) no_type).span → Summed r sum → Summed (r + 1) (sum + span)
-  one_summed r sum span h e i =
-      let p = root_place s r h in
-      let z = type_size s (place_of r) p in
-      let w = type_within s (place_of r) p in
-      record { total = omega (arith, i.total, rest_length r h, z, e); few = omega (arith, i.few, w, z, e, few_types s) }
+  pub spans_all : (n : ℕ) → n ≡ length (roots_in s) → sum_by (span_of s) (range_with_len 0 n) ≡ length (all_records s)
+  spans_all n e = spans 0 n (omega arith)
 
-  pub all_summed : (r sum : ℕ) → length (roots_in s) ≤ r → Summed r sum → sum ≡ length (all_records s)
-  all_summed r sum h i = omega (arith, i.total, ap length (rest_none r h))
+  spans_low : (r n : ℕ) → r + n ≡ length (roots_in s) → length (rest_records r) ≤ 2048 * n
+  spans_low r zero e = omega (arith, ap length (rest_none r (omega arith)))
+  spans_low r (suc n) e =
+      let p = root_place s r (omega arith) in
+      omega (arith, rest_length r (omega arith), spans_low (r + 1) n (omega arith), type_within s (place_of r) p, few_types s)
 
-  -- the span of a record that was looked up, and where its tree ends
-  pub span_within : (p : ℕ) (t : TypeRecord) → p < length (types_in s) → t ≡ get_or (types_in s) p no_type → (t.span ≡ size (type_tree s p)) × (p + t.span ≤ 2048) × (p + t.span ≤ length (types_in s))
-  span_within p t h e =
-      let n = ap (λ (x : TypeRecord). x.span) e in
-      let z = type_size s p h in
-      let w = type_within s p h in
-      (n ∙ z, omega (arith, n, z, w, few_types s), omega (arith, n, z, w))
-
-  -- one type, record by record
-  module _ (p at : ℕ) (start : List TypeRecord) where
-    abbrev pub Copying : List TypeRecord → ℕ → Type 0
-    Copying fields k = take (at + k) fields ≡ take at start ++ take k (drop p (types_in s))
-
-    pub none_copied : Copying start 0
-    none_copied = let z : at + 0 ≡ at = omega arith in ap (λ n. take n start) z ∙ sym (append-nil (take at start))
-
-    pub one_copied : (fields : List TypeRecord) (k : ℕ) (t : TypeRecord) → at + k < length fields → p + k < length (types_in s) → t ≡ get_or (types_in s) (p + k) no_type → Copying fields k → Copying (set fields (at + k) t) (k + 1)
-    one_copied fields k t room h e inv =
-        let z : at + (k + 1) ≡ at + k + 1 = omega arith in
-        let types = drop p (types_in s) in
-        let short : k < length types = omega (arith, length-drop p (types_in s)) in
-        ap (λ n. take n (set fields (at + k) t)) z ∙ take_more_set fields (at + k) t room ∙ ap (λ w. w ++ t ∷ []) inv
-        ∙ append_assoc (take at start) (take k types) (t ∷ [])
-        ∙ ap (λ w. take at start ++ w) (ap (λ x. take k types ++ x ∷ []) (e ∙ sym (get_or-drop p (types_in s) k no_type)) ∙ sym (take_more types k no_type short))
-
-    pub all_copied : p < length (types_in s) → (fields : List TypeRecord) (k span : ℕ) → span ≤ k → k ≤ span → span ≡ (get_or (types_in s) p no_type).span → Copying fields k
-        → (take (at + span) fields ≡ take at start ++ preorder (type_tree s p)) × (at + span ≡ at + size (type_tree s p))
-    all_copied there fields k span low high e inv =
-        let z = type_size s p there in
-        let n : k ≡ size (type_tree s p) = omega (arith, z) in
-        let m : at + span ≡ at + k = omega arith in
-        (ap (λ q. take q fields) m ∙ inv ∙ ap (λ w. take at start ++ w) (ap (λ q. take q (drop p (types_in s))) n ∙ type_records s p there), omega (arith, z))
+  pub spans_few : length (all_records s) ≤ 524288
+  spans_few = omega (arith, spans_low 0 (length (roots_in s)) (omega arith), few_roots s)
 
   -- the fields of the listed roots
   module _ (listed : List ℕ) where

@@ -12,3 +12,4 @@ pub mod Prefixes
 pub mod Runs
 pub mod Schemas
 pub mod Targeting
+pub mod Unknown

@@ -1,13 +1,12 @@
 -- Whether the casts on a root can be met by one clip. Assumes nothing.
-use Rattle.std.proofs.Common.{◌≡◌, ℕ, ◌<◌, Bool, true, false, cond, not, ◌&&◌, eqb, ltb, List, [], ◌∷◌, length, take, Some, None, Option, sym, refl, ap, ◌∙◌, arith}
+use Rattle.std.proofs.Common.{◌≡◌, ℕ, ◌<◌, Bool, true, false, cond, not, ◌&&◌, eqb, ltb, List, [], ◌∷◌, length, Some, None, Option, sym, refl, ap, ◌∙◌, arith, subst}
 use mathlib.Core.Bool.{beq}
-use Rattle.std.proofs.lemmas.List.{length-take-le}
-use Rattle.std.proofs.lemmas.Bool.{eq-eqb, ne_eqb, eqb-true, and_parts, and_from, ltb-true}
+use Rattle.std.proofs.lemmas.Bool.{eq-eqb, eqb-true, and_parts, and_from, ltb-true}
 use Rattle.std.specs.Str.{bytes_eq}
-use Rattle.std.specs.Option.{option_map}
 use Rattle.rules.specs.Keeping.{kept_leaves, clipped, is_void, is_clipped, clip_count}
 use Rattle.rules.specs.Names.{Name}
-use Rattle.rules.specs.ReadPlan.{unread, entire, along, narrowed, by_paths, is_empty, every}
+use Rattle.rules.specs.ReadPlan.{entire, narrowed, is_empty, every}
+use Rattle.rules.specs.RootPlan.{is_listed}
 use Rattle.rules.specs.Trees.{preorder}
 use Rattle.rules.specs.Types.{Ty, leaf, struct, wrap, Fields, empty, field, leaf_count_of, same_type, same_fields, wrapper_kind, wrapper_detail}
 use Rattle.format.specs.declared.records.TypeRecord.{TypeRecord}
@@ -19,49 +18,16 @@ use Rattle.nested.specs.declared.tables.Clip.{Clip}
 use Rattle.nested.specs.declared.tables.ClipTable.{ClipTable}
 use Rattle.nested.specs.Clips.{clip_at, clip_in, shown}
 use Rattle.planner.specs.declared.readings.RootReading.TheVariants.{Narrowed}
-use Rattle.planner.specs.Readings.{by_targets, Reads}
-use Rattle.planner.specs.Targets.{first_of}
+use Rattle.planner.specs.declared.readings.Uses.{Uses}
+use Rattle.planner.specs.Readings.{by_targets, paths_on, reading_of, Reads}
+use Rattle.planner.specs.Targets.{first_of, targets_on, FirstTarget}
+use Rattle.access.specs.declared.accesses.CastColumnAccess.{CastColumnAccess}
+use Rattle.std.specs.Option.{option_map}
 
--- one of three tests fails
-module _ {A : Type 0} (x : Option A) (a b : Bool) where
-  pub first_fails : {r : Bool} (c : Bool) → r ≡ not a → r ≡ true → None ≡ cond (a && (b && c)) x None
-  first_fails {r} c e t = ap (λ z. cond (z && (b && c)) x None) (sym (untrue a (sym e ∙ t)))
-    where
-      untrue : (z : Bool) → not z ≡ true → z ≡ false
-      untrue true h = sym h
-      untrue false h = refl
-
-  pub second_fails : {r : Bool} (c : Bool) → r ≡ not b → r ≡ true → None ≡ cond (a && (b && c)) x None
-  second_fails {r} c e t = go a b (sym e ∙ t)
-    where
-      go : (y z : Bool) → not z ≡ true → None ≡ cond (y && (z && c)) x None
-      go true true h = absurd (let n : ◌≡◌ {A = ℕ} 0 1 = ap (λ w. cond w 1 0) h in omega arith)
-      go true false h = refl
-      go false z h = refl
-
-  pub third_fails : (n m : ℕ) → (n ≡ m → ⊥) → None ≡ cond (a && (b && eqb n m)) x None
-  third_fails n m h = go a b ∙ ap (λ c. cond (a && (b && c)) x None) (sym (ne_eqb n m h))
-    where
-      go : (y z : Bool) → None ≡ cond (y && (z && false)) x None
-      go true true = refl
-      go true false = refl
-      go false z = refl
-
-  pub all_hold : {r q : Bool} (n m : ℕ) → r ≡ not a → r ≡ false → q ≡ not b → q ≡ false → n ≡ m → x ≡ cond (a && (b && eqb n m)) x None
-  all_hold {r} {q} n m e t f u h = (λ k. cond (sym (untrue a (sym e ∙ t)) k && (sym (untrue b (sym f ∙ u)) k && sym (eq-eqb n m h) k)) x None)
-    where
-      untrue : (z : Bool) → not z ≡ false → z ≡ true
-      untrue true h = refl
-      untrue false h = sym h
-
--- the two halves of a clip that is there
+-- the leaves of a clip that is there
 abbrev pub leaves_of : Option (List ℕ × List TypeRecord) → List ℕ
 leaves_of None = []
 leaves_of (Some x) = x.0
-
-abbrev pub types_of : Option (List ℕ × List TypeRecord) → List TypeRecord
-types_of None = []
-types_of (Some x) = x.1
 
 -- a type is the same as itself
 same_bytes : (n : Name) → bytes_eq n n ≡ true
@@ -82,47 +48,33 @@ mutual
   same_selves empty = refl
   same_selves (field n b t fs) = and_from _ _ (and_from _ _ (and_from _ _ (same_bytes n) (same_flag b)) (same_self t)) (same_selves fs)
 
+-- the first target, of the same sheet
+pub target_is : {s' s : Sheet} (cs : List CastColumnAccess) (root goal : ℕ) {o : Option ℕ} → s' ≡ s → FirstTarget s' cs root o → o ≡ Some goal → Some (type_at_place s goal) ≡ first_of (targets_on s cs root)
+target_is {s'} cs root goal same f e = subst (λ (x : Sheet). Some (type_at_place x goal) ≡ first_of (targets_on x cs root)) same (sym (ap (option_map (type_at_place s')) e) ∙ f.is_first)
+
+-- a root that is not listed
+pub unlisted : (s : Sheet) (place n : ℕ) (u : Uses) (root : ℕ) → is_listed u.required.now root ≡ false → reading_of s u root place n ≡ by_targets s place n (targets_on s u.casts.now root) (paths_on s u root)
+unlisted s place n u root e = ap (λ b. cond b entire (by_targets s place n (targets_on s u.casts.now root) (paths_on s u root))) e
+
 module _ (s : Sheet) (place n : ℕ) (targets : List Ty) (paths : List (List Name)) where
-  -- no cast
-  pub no_targets : (o : Option ℕ) → option_map (type_at_place s) o ≡ first_of targets → o ≡ None → targets ≡ []
-  no_targets o e t = go targets (sym e ∙ ap (option_map (type_at_place s)) t)
-    where
-      go : (ts : List Ty) → first_of ts ≡ None → ts ≡ []
-      go [] h = refl
-      go (x ∷ ts) h = absurd (let z : ◌≡◌ {A = ℕ} 0 1 = cc in omega arith)
-
-  pub unread_is : targets ≡ [] → {r : Bool} → r ≡ not (is_empty paths) → r ≡ false → by_targets s place n targets paths ≡ unread
-  unread_is e {r} f t = ap (λ ts. by_targets s place n ts paths) e ∙ go paths (sym f ∙ t)
-    where
-      go : (ps : List (List Name)) → not (is_empty ps) ≡ false → by_paths ps ≡ unread
-      go [] h = refl
-      go (p ∷ ps) h = absurd (let z : ◌≡◌ {A = ℕ} 1 0 = ap (λ w. cond w 1 0) h in omega arith)
-
-  pub along_is : targets ≡ [] → {r : Bool} → r ≡ not (is_empty paths) → r ≡ true → by_targets s place n targets paths ≡ along paths
-  along_is e {r} f t = ap (λ ts. by_targets s place n ts paths) e ∙ go paths (sym f ∙ t)
-    where
-      go : (ps : List (List Name)) → not (is_empty ps) ≡ true → by_paths ps ≡ along ps
-      go [] h = absurd (let z : ◌≡◌ {A = ℕ} 0 1 = ap (λ w. cond w 1 0) h in omega arith)
-      go (p ∷ ps) h = refl
-
   module _ (goal : ℕ) (first : Some (type_at_place s goal) ≡ first_of targets) where
     abbrev g : Ty
     g = type_at_place s goal
 
     abbrev tests : Bool
-    tests = is_empty paths && (every (same_type g) targets && eqb n (leaf_count_of (type_at_place s place)))
+    tests = is_empty paths && every (same_type g) targets && eqb n (leaf_count_of (type_at_place s place))
 
     -- what is told by the tests and by the clip, together
-    by_first : (ts : List Ty) → Some g ≡ first_of ts → by_targets s place n ts paths ≡ cond ((is_empty paths && (every (same_type g) ts && eqb n (leaf_count_of (type_at_place s place)))) && is_clipped (type_at_place s place) g) (narrowed g) entire
+    by_first : (ts : List Ty) → Some g ≡ first_of ts → by_targets s place n ts paths ≡ cond ((is_empty paths && every (same_type g) ts && eqb n (leaf_count_of (type_at_place s place))) && is_clipped (type_at_place s place) g) (narrowed g) entire
     by_first [] h = absurd (let z : ◌≡◌ {A = ℕ} 0 1 = cc in omega arith)
     by_first (x ∷ ts) h =
         let is : x ≡ g = cc in
         ap (λ y. by_targets s place n (y ∷ ts) paths) is
         ∙ ap (λ z. cond z (narrowed g) entire) (regroup (is_empty paths) (every (same_type g) ts) (eqb n (leaf_count_of (type_at_place s place))) (is_clipped (type_at_place s place) g))
-        ∙ ap (λ z. cond ((is_empty paths && ((z && every (same_type g) ts) && eqb n (leaf_count_of (type_at_place s place)))) && is_clipped (type_at_place s place) g) (narrowed g) entire) (sym (same_self g))
-        ∙ ap (λ y. cond ((is_empty paths && ((same_type g y && every (same_type g) ts) && eqb n (leaf_count_of (type_at_place s place)))) && is_clipped (type_at_place s place) g) (narrowed g) entire) (sym is)
+        ∙ ap (λ z. cond ((is_empty paths && (z && every (same_type g) ts) && eqb n (leaf_count_of (type_at_place s place))) && is_clipped (type_at_place s place) g) (narrowed g) entire) (sym (same_self g))
+        ∙ ap (λ y. cond ((is_empty paths && (same_type g y && every (same_type g) ts) && eqb n (leaf_count_of (type_at_place s place))) && is_clipped (type_at_place s place) g) (narrowed g) entire) (sym is)
       where
-        regroup : (a b c d : Bool) → (a && (b && (c && d))) ≡ ((a && ((true && b) && c)) && d)
+        regroup : (a b c d : Bool) → (a && (b && (c && d))) ≡ ((a && (true && b) && c) && d)
         regroup true true true d = refl
         regroup true true false d = refl
         regroup true false c d = refl
@@ -144,17 +96,16 @@ module _ (s : Sheet) (place n : ℕ) (targets : List Ty) (paths : List (List Nam
     some_of true false x y e = absurd (let z : ◌≡◌ {A = ℕ} 1 0 = cc in omega arith)
     some_of false b x y e = absurd (let z : ◌≡◌ {A = ℕ} 1 0 = cc in omega arith)
 
-    pub narrowed_is : (table : ClipTable) (c : Clip) → shown (Some c) table ≡ clip → Reads s place n paths (Narrowed c) table (by_targets s place n targets paths)
-    narrowed_is table c e =
-        let both = some_of tests (is_clipped (type_at_place s place) g) (kept_leaves (clip_at s place goal) 0 (type_at_place s place), preorder (kept_tree (clip_at s place goal) (type_tree s place))) (take c.leaves table.offsets, take c.types table.types) e in
-        let stands : shown (Some c) table ≡ clip_in s place goal = e ∙ ap (λ z. cond z (clip_in s place goal) None) both.0 in
+    pub narrowed_is : (table : ClipTable) → Some (table.offsets.items, table.types.items) ≡ clip → Reads s place n paths Narrowed table (by_targets s place n targets paths)
+    narrowed_is table e =
+        let both = some_of tests (is_clipped (type_at_place s place) g) (kept_leaves (clip_at s place goal) 0 (type_at_place s place), preorder (kept_tree (clip_at s place goal) (type_tree s place))) (table.offsets.items, table.types.items) e in
+        let stands : Some (table.offsets.items, table.types.items) ≡ clip_in s place goal = e ∙ ap (λ z. cond z (clip_in s place goal) None) both.0 in
         let even = eqb n (leaf_count_of (type_at_place s place)) in
         let like = every (same_type g) targets in
         let some-kept = ltb 0 (clip_count (type_at_place s place) g) in
         let less-kept = ltb (clip_count (type_at_place s place) g) (leaf_count_of (type_at_place s place)) in
-        let same : n ≡ leaf_count_of (type_at_place s place) = eqb-true n (leaf_count_of (type_at_place s place)) (and_parts like even (and_parts (is_empty paths) (like && even) both.0).1).1 in
+        let same : n ≡ leaf_count_of (type_at_place s place) = eqb-true n (leaf_count_of (type_at_place s place)) (and_parts (is_empty paths && like) even both.0).1 in
         let less : clip_count (type_at_place s place) g < leaf_count_of (type_at_place s place) = ltb-true (clip_count (type_at_place s place) g) (leaf_count_of (type_at_place s place)) (and_parts some-kept less-kept (and_parts (not (is_void (clipped (type_at_place s place) g) (type_at_place s place))) (some-kept && less-kept) both.1).1).1 in
-        let some : shown (Some c) table ≡ Some (kept_leaves (clip_at s place goal) 0 (type_at_place s place), preorder (kept_tree (clip_at s place goal) (type_tree s place))) = stands ∙ ap (λ z. cond z (Some (kept_leaves (clip_at s place goal) 0 (type_at_place s place), preorder (kept_tree (clip_at s place goal) (type_tree s place)))) None) both.1 in
-        let kept : take c.leaves table.offsets ≡ kept_leaves (clip_at s place goal) 0 (type_at_place s place) = ap leaves_of some in
-        let long = length-take-le c.leaves table.offsets (omega (arith, c.few, table.sized.0)) in
-        (goal, by_first targets first ∙ ap (λ z. cond (tests && z) (narrowed g) entire) both.1 ∙ ap (λ z. cond (z && true) (narrowed g) entire) both.0, record { stands = stands; fewer = omega (arith, ap length kept, long, less, same) })
+        let some : ◌≡◌ {A = Option (List ℕ × List TypeRecord)} (Some (table.offsets.items, table.types.items)) (Some (kept_leaves (clip_at s place goal) 0 (type_at_place s place), preorder (kept_tree (clip_at s place goal) (type_tree s place)))) = stands ∙ ap (λ z. cond z (Some (kept_leaves (clip_at s place goal) 0 (type_at_place s place), preorder (kept_tree (clip_at s place goal) (type_tree s place)))) None) both.1 in
+        let kept : table.offsets.items ≡ kept_leaves (clip_at s place goal) 0 (type_at_place s place) = ap leaves_of some in
+        (goal, by_first targets first ∙ ap (λ z. cond (tests && z) (narrowed g) entire) both.1 ∙ ap (λ z. cond (z && true) (narrowed g) entire) both.0, record { stands = stands; fewer = omega (arith, ap length kept, less, same) })

@@ -1,31 +1,36 @@
--- Writing to a buffer from its front. Assumes nothing.
-use Rattle.std.proofs.Common.{◌≡◌, ℕ, ◌+◌, ◌-◌, ◌<◌, ◌≤◌, List, [], ◌∷◌, ◌++◌, length, take, set, replicate, sym, ap, ◌∙◌, append_assoc, append-nil, arith}
-use Rattle.std.proofs.lemmas.List.{take_more_set, replicate_more, take_all, length-take-le}
+-- Writing to what is left of a buffer. Assumes nothing.
+use Rattle.std.proofs.Common.{◌≡◌, ℕ, ◌+◌, ◌-◌, ◌≤◌, List, ◌++◌, length, take, drop, replicate, sym, refl, ap, ◌∙◌, arith, length-drop}
+use borrow.Rule.Slice.PartMut.{put_mid, same_len_mid}
+use Rattle.std.proofs.lemmas.List.{take_all, length-take-le, length-replicate}
+use Rattle.std.proofs.lemmas.Slice.{take-put_mid}
 use Rattle.rules.specs.RootPlan.{padded}
+use Rattle.access.proofs.Prunes.{part_written}
 
-module _ {A : Type 0} (blank : A) (start : List A) (from : ℕ) where
-  -- as far as the place p, what stood before, and then blanks
-  abbrev pub Blanked : List A → ℕ → Type 0
-  Blanked xs p = take p xs ≡ take from start ++ replicate (p - from) blank
+module _ {A : Type 0} where
+  -- what stands behind the first n, and the buffer with another list there
+  abbrev pub behind : ℕ → List A → List A
+  behind n xs = take (length xs - n) (drop n xs)
 
-  pub blank_none : Blanked start from
-  blank_none = let z : from - from ≡ 0 = omega arith in sym (append-nil (take from start)) ∙ ap (λ n. take from start ++ replicate n blank) (sym z)
+  abbrev pub put_behind : ℕ → List A → List A → List A
+  put_behind n xs ys = put_mid n (length xs - n) xs ys
 
-  pub blank_more : (xs : List A) (p : ℕ) → from ≤ p → p < length xs → Blanked xs p → Blanked (set xs p blank) (p + 1)
-  blank_more xs p low h inv =
-      let z : p - from + 1 ≡ p + 1 - from = omega arith in
-      take_more_set xs p blank h ∙ ap (λ w. w ++ blank ∷ []) inv
-      ∙ append_assoc (take from start) (replicate (p - from) blank) (blank ∷ [])
-      ∙ ap (λ w. take from start ++ w) (replicate_more (p - from) blank ∙ ap (λ n. replicate n blank) z)
+  pub length-behind : (n : ℕ) (xs : List A) → length (behind n xs) ≡ length xs - n
+  length-behind n xs = length-take-le (length xs - n) (drop n xs) (omega (arith, length-drop n xs))
 
-  pub blank_all : (xs : List A) (p : ℕ) → length xs ≡ length start → length start ≤ p → p ≤ length start → Blanked xs p → xs ≡ take from start ++ replicate (length start - from) blank
-  blank_all xs p same high low inv =
-      let z : p ≡ length start = omega arith in
-      sym (take_all p xs (omega arith)) ∙ inv ∙ ap (λ n. take from start ++ replicate (n - from) blank) z
+  pub length-put : (at : ℕ) (xs part : List A) → length part ≡ length (behind at xs) → length (put_behind at xs part) ≡ length xs
+  length-put at xs part same = same_len_mid at (length xs - at) xs part same
 
--- what was written, and then blanks, is the padded result
-pub pads : {A : Type 0} (blank : A) (xs out : List A) (n room : ℕ) → n ≤ length xs → length xs ≡ room → take n xs ≡ out → take n xs ++ replicate (length xs - n) blank ≡ padded blank out room
-pads blank xs out n room low same e =
-    let l = length-take-le n xs low in
-    let z : length xs - n ≡ room - length out = omega (arith, l, ap length e) in
-    λ k. e k ++ replicate (z k) blank
+  -- what was written to the front of what stands behind others
+  pub written_on : (at n : ℕ) (xs part out : List A) → length part ≡ length (behind at xs) → at + n ≤ length xs → take n part ≡ out → take (at + n) (put_behind at xs part) ≡ take at xs ++ out
+  written_on at n xs part out same room e = part_written at n xs part _ (omega arith) (omega (arith, length-behind at xs)) ∙ ap (λ w. take at xs ++ w) e
+
+  -- what was written, and then blanks, is the padded result
+  pub pads : (blank : A) (xs ys out : List A) (n room : ℕ) → n ≤ length xs → length xs ≡ room → take n xs ≡ out → ys ≡ replicate (length (behind n xs)) blank → put_behind n xs ys ≡ padded blank out room
+  pads blank xs ys out n room low same e f =
+      let l = length-take-le n xs low in
+      let many : length ys ≡ length (behind n xs) = ap length f ∙ length-replicate (length (behind n xs)) blank in
+      let z : length (behind n xs) ≡ room - length out = omega (arith, l, length-behind n xs, ap length e) in
+      let whole = same_len_mid n (length xs - n) xs ys many in
+      sym (take_all (n + length ys) (put_behind n xs ys) (omega (arith, whole, many, length-behind n xs)))
+      ∙ take-put_mid n (length xs - n) xs ys (n + length ys) refl low
+      ∙ (λ k. e k ++ (f ∙ ap (λ m. replicate m blank) z) k)

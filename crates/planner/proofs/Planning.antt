@@ -67,7 +67,7 @@ module _ (s : Sheet) (ls : List Leaf) (reading : ℕ → Reading) where
   planning_starts mask schema h = record { at = at_start ls; leaves = refl; few = omega arith; kept = refl; room = omega arith; count = omega arith; some = omega arith }
 
   module _ (rising : NeverFalls (roots ls)) (r first n fields types end : ℕ) (mask : List ℕ) (schema : List TypeRecord) (h : r < length (roots_in s)) (p : Planning r first n fields types mask schema) (run : Run ls r first end) where
-    -- the root's own leaves, and the room for its field
+    -- the root's own leaves
     pub root_leaves : leaves_on r 0 ls ≡ segment ls first end
     root_leaves = own_leaves ls rising r first end p.at run
 

@@ -1,14 +1,14 @@
 -- The leaves of one root stand one behind the other, since roots never fall. Assumes nothing.
-use Rattle.std.proofs.Common.{◌≡◌, ℕ, zero, suc, ◌+◌, ◌-◌, ◌<◌, ◌≤◌, Bool, true, false, cond, eqb, List, [], ◌∷◌, ◌++◌, map, length, get_or, drop, Some, sym, refl, ap, ◌∙◌, subst, inl, inr, append-nil, arith}
+use Rattle.std.proofs.Common.{◌≡◌, ℕ, zero, suc, ◌+◌, ◌-◌, ◌<◌, ◌≤◌, cond, eqb, ◌≢◌, List, [], ◌∷◌, ◌++◌, map, length, get_or, drop, Some, None, Option, unwrap_or, refl, ap, ◌∙◌, subst, inl, inr, append-nil, arith}
 use lib.ListN.{length-map}
 use Rattle.std.proofs.lemmas.List.{at_drop_more, at_drop_all, get_or-map}
 use Rattle.std.proofs.lemmas.Option.{slice_get-get_or}
-use Rattle.std.proofs.lemmas.Bool.{eq-eqb, ne_eqb, eqb-true, eqb-false, cases_lt, cond-true, cond-false}
+use Rattle.std.proofs.lemmas.Bool.{eq-eqb, ne_eqb, cases_lt, cond-true, cond-false}
 use Rattle.std.specs.List.{range_with_len}
-use Rattle.std.specs.Option.{option_map}
+use Rattle.std.specs.Option.{MatchOption, option_map}
 use Rattle.rules.specs.Leaves.{Leaf, roots, root_at, NeverFalls}
 use Rattle.rules.specs.ReadPlan.{leaves_on}
-use Rattle.planner.specs.Segments.{no_leaf, segment, is_root, root_of as root_in, Run as Run-in}
+use Rattle.planner.specs.Segments.{no_leaf, segment, root_of as root_in, Run as Run-in}
 
 module _ (ls : List Leaf) where
   abbrev root_of : ℕ → ℕ
@@ -95,26 +95,19 @@ module _ (ls : List Leaf) where
           ∙ ap (λ w. segment ls leaf end ++ w) (others_behind j end (length ls - end) (omega (arith, r.within)) (λ i l h e. omega (arith, behind i l h)))
           ∙ append-nil (segment ls leaf end)
 
-  -- a search for the end of a run
-  pub record Searching (j leaf k : ℕ) : Type 0 where
-    pub own : (i : ℕ) → leaf ≤ i → i < k → root_of i ≡ j
-
-  pub searching_starts : (j leaf : ℕ) → Searching j leaf leaf
-  searching_starts j leaf = record { own = λ i l h. absurd (omega arith) }
-
-  pub searching_on : (j leaf k : ℕ) (b : Bool) → k < length ls → b ≡ is_root (root_at ls k) j → b ≡ true → Searching j leaf k → Searching j leaf (k + 1)
-  searching_on j leaf k b h e t s =
-      let same : root_of k ≡ j = eqb-true (root_of k) j (ap (λ o. is_root o j) (sym (root_told k h)) ∙ sym e ∙ t) in
-      record { own = λ i l m. elim (cases_lt i k) [ inl x ↦ s.own i l x | inr x ↦ let q : i ≡ k = omega arith in ap root_of q ∙ same ] }
-
-  pub search_stops : (j leaf k : ℕ) (b : Bool) → leaf ≤ k → k < length ls → b ≡ is_root (root_at ls k) j → b ≡ false → Searching j leaf k → Run j leaf k
-  search_stops j leaf k b low h e t s =
-      record {
-        forth = low;
-        within = omega arith;
-        own = s.own;
-        over = λ l same. eqb-false (root_of k) j (ap (λ o. is_root o j) (sym (root_told k h)) ∙ sym e ∙ t) same;
-      }
-
-  pub search_ends : (j leaf k : ℕ) → leaf ≤ k → k ≡ length ls → Searching j leaf k → Run j leaf k
-  search_ends j leaf k low h s = record { forth = low; within = omega arith; own = s.own; over = λ l. absurd (omega arith) }
+  -- where a search for the end of a run stops
+  pub run_found : (j leaf count : ℕ) (found : Option ℕ) → count ≡ length ls → leaf ≤ length ls
+      → MatchOption found ((i : ℕ) → leaf ≤ i → i < count → root_at ls i ≡ Some j) (λ end. (leaf ≤ end) × (end < count) × (root_at ls end ≢ Some j) × ((i : ℕ) → leaf ≤ i → i < end → root_at ls i ≡ Some j))
+      → Run j leaf (unwrap_or found count)
+  run_found j leaf count None all low f = record {
+    forth = omega arith;
+    within = omega arith;
+    own = λ i l h. let it = root_told i (omega arith) in let is = f i l h in cc;
+    over = λ h. absurd (omega arith);
+  }
+  run_found j leaf count (Some end) all low f = record {
+    forth = f.0;
+    within = omega (arith, f.1);
+    own = λ i l h. let it = root_told i (omega (arith, f.1)) in let is = f.3 i l h in cc;
+    over = λ h same. f.2 (root_told end h ∙ ap Some same);
+  }

@@ -1,5 +1,5 @@
 -- The plan that reads listed roots whole, with every buffer. Assumes nothing.
-use Rattle.std.specs.Prelude.{◌≡◌, ℕ, Bool, cond, ◌&&◌, List, length, Some, None, Ok, Err, Option, Result, nat_le, nat_lt, slice_index}
+use Rattle.std.specs.Prelude.{◌≡◌, ℕ, Bool, cond, ◌&&◌, List, length, Some, None, Ok, Err, Option, Result, nat_le, nat_lt, slice_index, slice_index_or}
 use Rattle.std.specs.List.{flat_map}
 use Rattle.rules.specs.Leaves.{Leaf}
 use Rattle.rules.specs.RootPlan.{leaves_of_listed, fields_of_listed, roots_of_listed, padded}
@@ -8,9 +8,9 @@ use Rattle.rules.specs.Trees.{Tree, preorder}
 use Rattle.format.specs.declared.fault.Fault.{Fault}
 use Rattle.format.specs.declared.fault.Fault.TheVariants.{NoRoot, ShortBuffer}
 use Rattle.format.specs.declared.records.TypeRecord.{TypeRecord}
-use Rattle.format.specs.Records.{no_type}
+use Rattle.format.specs.Records.{no_root, no_type}
 use Rattle.sheet.specs.declared.sheet.Sheet.{Sheet}
-use Rattle.sheet.specs.Seen.{names_in, roots_in}
+use Rattle.sheet.specs.Seen.{names_in, roots_in, types_in}
 use Rattle.sheet.specs.SheetTrees.{root_trees, file_from, file_in}
 use Rattle.planner.specs.declared.projection_read_plan.Plan.{Plan}
 
@@ -23,6 +23,10 @@ field_records fs = flat_map preorder fs
 
 abbrev pub all_records : Sheet → List TypeRecord
 all_records s = field_records (root_trees s)
+
+-- how many type records a root has
+abbrev pub span_of : Sheet → ℕ → ℕ
+span_of s r = (slice_index_or (types_in s) (slice_index_or (roots_in s) r no_root).type_place no_type).span
 
 -- the fields of the listed roots, taken as types, are those roots of the sheet's file
 abbrev pub SchemaOfTheFile : Type 0

@@ -1,5 +1,5 @@
 -- Leaves that stand one behind the other. Assumes nothing.
-use Rattle.std.specs.Prelude.{◌≡◌, ℕ, ◌-◌, ◌<◌, ◌≤◌, Bool, false, List, [], map, length, get_or, Some, None, Option, ◌==◌, ◌≢◌, slice_index_or}
+use Rattle.std.specs.Prelude.{◌≡◌, ℕ, ◌-◌, ◌<◌, ◌≤◌, List, [], map, length, get_or, ◌≢◌, slice_index_or}
 use Rattle.std.specs.List.{range_with_len}
 use Rattle.rules.specs.Leaves.{Leaf}
 use Rattle.rules.specs.Names.{Name}
@@ -10,11 +10,6 @@ no_leaf = record { root = 0; parts = [] }
 -- the leaves from number a up to e, each with its number
 abbrev pub segment : List Leaf → ℕ → ℕ → List (ℕ × Leaf)
 segment ls a e = map (λ i. (i, slice_index_or ls i no_leaf)) (range_with_len a (e - a))
-
--- whether a leaf has a root, where its root is told
-abbrev pub is_root : Option ℕ → ℕ → Bool
-is_root None j = false
-is_root (Some i) j = i == j
 
 -- the parts of a leaf
 abbrev pub parts_of : List Leaf → ℕ → List Name

@@ -2,7 +2,6 @@
 #![tactic(auto)]
 
 mod assemble;
-mod buffers;
 mod leaves;
 mod projection_read_plan;
 mod readings;

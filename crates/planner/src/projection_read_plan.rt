@@ -8,11 +8,11 @@ ghost use Rattle.format.specs.declared.records.TypeRecord.{TypeRecord};
 ghost use Rattle.format.specs.Records.{no_type};
 ghost use Rattle.sheet.specs.Seen.{roots_in, types_in};
 ghost use Rattle.sheet.specs.SheetTrees.{type_tree};
-ghost use Rattle.planner.specs.RootPlans.{PlanAnswer, SchemaOfTheFile, root_level, listed_fields, field_records, all_records};
+ghost use Rattle.planner.specs.RootPlans.{PlanAnswer, SchemaOfTheFile, root_level, listed_fields, field_records, all_records, span_of};
 
-use crate::buffers::blank_from;
+use crate::readings::root_type;
 use directory::LeafDirectory;
-use sheet::{Fault, Sheet, TypeRecord};
+use sheet::{Fault, RootRecord, Sheet, TypeRecord};
 
 /// A plan: how many leaves are read, and how many fields and type records the projected schema has. They stand at the
 /// front of the two buffers that the plan was written to.
@@ -43,40 +43,29 @@ impl Plan {
     }
 }
 
-pub(crate) fn is_listed(roots: &[usize], root: usize) -> bool
-    ensures { result ≡ is_listed roots.now root }
-{
-    for listed in roots {
-        if *listed == root {
-            return true;
-        }
-    }
-    false
-}
-
 // The position of the first listed root that the file lacks.
 fn first_unknown(sheet: &Sheet, roots: &[usize]) -> Option<usize>
     ensures { result ≡ first_failing (λ k. nat_lt (slice_index roots.now k) (length (roots_in sheet.now))) 0 (length roots.now) }
 {
-    let count = sheet.root_count();
-    for (k, root) in roots.iter().enumerate() {
-        if *root >= count {
-            return Some(k);
-        }
-    }
-    None
+    let count = sheet.count::<RootRecord>();
+    roots.iter().position(|root| *root >= count)
+}
+
+// How many type records a root has; none beyond the roots.
+fn span_of(sheet: &Sheet, root: usize) -> usize
+    ensures { result ≡ span_of sheet.now root }
+{
+    let place = sheet.record::<RootRecord>(root).type_place as usize;
+    sheet.record::<TypeRecord>(place).span as usize
 }
 
 /// How long the buffer for a plan's fields has to be: as many type records as all roots have.
 pub fn field_room(sheet: &Sheet) -> usize
     ensures { result ≡ length (all_records sheet.now) }
 {
-    let mut sum = 0;
-    for root in 0..sheet.root_count() {
-        let place = sheet.root_record(root).type_place as usize;
-        sum += sheet.type_record(place).span as usize;
-    }
-    sum
+    (0..sheet.count::<RootRecord>())
+        .map(|root| span_of(sheet, root))
+        .sum()
 }
 
 // Writes the numbers of the leaves whose root is listed, and zeros behind them. Tells how many there are.
@@ -86,50 +75,43 @@ fn choose_leaves<D: LeafDirectory>(directory: &D, roots: &[usize], mask: &mut [u
     ensures count { result ≡ length (leaves_of_listed roots.now 0 (D.LeafDirectory.leaves directory.now)) }
 {
     let mut count = 0;
+    // A loop: the numbers that pass go to the front of a lent buffer.
     for leaf in 0..directory.count() {
         if let Some(root) = directory.root(leaf) {
-            if is_listed(roots, root) {
+            if roots.contains(&root) {
                 mask[count] = leaf;
                 count += 1;
             }
         }
     }
-    blank_from(mask, count, 0);
+    mask[count..].fill(0);
     count
 }
 
-// Copies the type at a place, with all below it, to the front of what is left of the buffer. Tells where it ends.
-fn copy_type(sheet: &Sheet, place: usize, fields: &mut [TypeRecord], at: usize) -> usize
-    requires there { place < length (types_in sheet.now) }
-    requires room { at + size (type_tree sheet.now place) ≤ length fields.old }
-    ensures copied { take result fields.new ≡ take at fields.old ++ preorder (type_tree sheet.now place) }
-    ensures end { result ≡ at + size (type_tree sheet.now place) }
-{
-    let span = sheet.type_record(place).span as usize;
-    for k in 0..span {
-        fields[at + k] = sheet.type_record(place + k);
-    }
-    at + span
+// How many fields a projected schema has, and how many type records.
+#[derive(Drop)]
+struct Schema {
+    fields: usize,
+    types: usize,
 }
 
-// Writes the fields of the listed roots, and blanks behind them. Tells how many fields and type records there are.
-fn copy_fields(sheet: &Sheet, roots: &[usize], fields: &mut [TypeRecord]) -> (usize, usize)
-    requires { length (all_records sheet.now) ≤ length fields.old }
-    ensures copied { fields.new ≡ padded no_type (field_records (listed_fields sheet.now roots.now)) (length fields.old) }
-    ensures count { result.0 ≡ length (listed_fields sheet.now roots.now) }
-    ensures types { result.1 ≡ length (field_records (listed_fields sheet.now roots.now)) }
+// Writes the fields of the listed roots, and blanks behind them.
+fn copy_fields(sheet: &Sheet, roots: &[usize], buffer: &mut [TypeRecord]) -> Schema
+    requires { length (all_records sheet.now) ≤ length buffer.old }
+    ensures copied { buffer.new ≡ padded no_type (field_records (listed_fields sheet.now roots.now)) (length buffer.old) }
+    ensures fields { result.fields ≡ length (listed_fields sheet.now roots.now) }
+    ensures types { result.types ≡ length (field_records (listed_fields sheet.now roots.now)) }
 {
-    let mut count = 0;
+    let mut fields = 0;
     let mut types = 0;
-    for root in 0..sheet.root_count() {
-        if is_listed(roots, root) {
-            let place = sheet.root_record(root).type_place as usize;
-            types = copy_type(sheet, place, fields, types);
-            count += 1;
+    for root in 0..sheet.count::<RootRecord>() {
+        if roots.contains(&root) {
+            types += root_type(sheet, root).copy_into(&mut buffer[types..]);
+            fields += 1;
         }
     }
-    blank_from(fields, types, TypeRecord::BLANK);
-    (count, types)
+    buffer[types..].fill(TypeRecord::BLANK);
+    Schema { fields, types }
 }
 
 /// The plan that reads the listed roots whole: all their leaves, ascending, each once, and their fields. Refused with a
@@ -151,11 +133,11 @@ pub fn root_level_plan<D: LeafDirectory>(
         return Err(Fault::ShortBuffer);
     }
     let chosen = choose_leaves(directory, roots, leaves);
-    let (count, types) = copy_fields(sheet, roots, fields);
+    let schema = copy_fields(sheet, roots, fields);
     Ok(Plan {
         leaves: chosen,
-        fields: count,
-        types,
+        fields: schema.fields,
+        types: schema.types,
     })
 }
 

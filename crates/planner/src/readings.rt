@@ -1,17 +1,18 @@
 //! How a root is read.
-ghost use Rattle.std.specs.Prelude.{◌≡◌, ◌<◌, ◌≤◌, not, ◌&&◌, length, if◌then◌else◌, None, nat_eq};
-ghost use Rattle.rules.specs.ReadPlan.{is_empty, every};
-ghost use Rattle.rules.specs.Types.{leaf_count_of, same_type};
-ghost use Rattle.sheet.specs.Seen.{types_in};
+ghost use Rattle.std.specs.Prelude.{◌≡◌, ◌<◌, not, length, slice_index_or};
+ghost use Rattle.rules.specs.ReadPlan.{every};
+ghost use Rattle.rules.specs.Types.{same_type};
+ghost use Rattle.format.specs.Records.{no_root};
+ghost use Rattle.sheet.specs.Seen.{roots_in};
 ghost use Rattle.sheet.specs.SheetExpressions.{type_at_place};
-ghost use Rattle.nested.specs.Clips.{clip_in, shown};
-ghost use Rattle.planner.specs.Readings.{Reads, paths_on, reading_of};
-ghost use Rattle.planner.specs.Targets.{is_cast_on, targets_on, FirstTarget};
+ghost use Rattle.nested.specs.Clips.{shown};
+ghost use Rattle.planner.specs.Readings.{Reads, clip_met, may_narrow, paths_on, reading_of};
+ghost use Rattle.planner.specs.Targets.{is_cast_on, is_unlike, targets_on, FirstTarget};
 
-use crate::projection_read_plan::is_listed;
 use access::{CastColumnAccess, StructFieldAccess, has_access};
-use nested::{Clip, ClipTable, clip_for_cast, count_leaves, is_same_type};
-use sheet::Sheet;
+use nested::{Clip, ClipTable, TypePair, count_leaves};
+use sheet::inner::TypeRef;
+use sheet::{RootRecord, Sheet};
 
 /// What a plan is made from: the roots that are read entire, and the accesses and casts on others.
 #[derive(Clone, Copy)]
@@ -21,13 +22,29 @@ pub struct Uses<'a> {
     pub casts: &'a [CastColumnAccess],
 }
 
-/// How a root is read: not at all, entire, along the accesses on it, or as a clip keeps it.
+/// What one root is used for.
+#[derive(Clone, Copy)]
+pub(crate) struct RootUses<'a> {
+    pub(crate) root: usize,
+    pub(crate) uses: Uses<'a>,
+}
+
+/// How a root is read: not at all, entire, along the accesses on it, or as the clip in a table keeps it.
 #[derive(Clone, Copy)]
 pub enum RootReading {
     Unread,
     Entire,
     Along,
-    Narrowed(Clip),
+    Narrowed,
+}
+
+/// The type of a root's field.
+pub(crate) fn root_type(sheet: &Sheet, root: usize) -> TypeRef<'_>
+    requires { root < length (roots_in sheet.now) }
+    ensures sheet { result.sheet.now ≡ sheet.now }
+    ensures place { result.place ≡ (slice_index_or (roots_in sheet.now) root no_root).type_place }
+{
+    TypeRef::at(sheet, sheet.record::<RootRecord>(root).type_place as usize)
 }
 
 fn is_cast_on(sheet: &Sheet, cast: CastColumnAccess, root: usize) -> bool
@@ -37,82 +54,82 @@ fn is_cast_on(sheet: &Sheet, cast: CastColumnAccess, root: usize) -> bool
 }
 
 // The target of the first cast on a root.
-fn cast_target(sheet: &Sheet, casts: &[CastColumnAccess], root: usize) -> Option<usize>
-    ensures { FirstTarget sheet.now casts.now root result }
+fn cast_target(sheet: &Sheet, used: RootUses<'_>) -> Option<usize>
+    ensures { FirstTarget sheet.now used.entry.uses.casts.now used.entry.root result }
 {
-    for cast in casts {
-        if is_cast_on(sheet, *cast, root) {
-            return Some(cast.target_type as usize);
-        }
-    }
-    None
+    used.uses
+        .casts
+        .iter()
+        .find(|cast| is_cast_on(sheet, **cast, used.root))
+        .map(|cast| cast.target_type as usize)
 }
 
-// Whether a cast on a root has another target than the type at a place.
-fn has_other_target(sheet: &Sheet, casts: &[CastColumnAccess], root: usize, goal: usize) -> bool
-    requires { goal < length (types_in sheet.now) }
-    ensures { result ≡ not (every (same_type (type_at_place sheet.now goal)) (targets_on sheet.now casts.now root)) }
+// Whether a cast is on a root, and has another target than this type.
+fn is_unlike(goal: TypeRef<'_>, cast: CastColumnAccess, root: usize) -> bool
+    ensures { result ≡ is_unlike goal.entry.sheet.now goal.entry.place root cast }
 {
-    for cast in casts {
-        if is_cast_on(sheet, *cast, root) {
-            if !is_same_type(sheet, goal, cast.target_type as usize) {
-                return true;
-            }
-        }
-    }
-    false
+    is_cast_on(goal.sheet(), cast, root)
+        && !TypePair::of(goal.sheet(), goal.place(), cast.target_type as usize).is_same_type()
 }
 
-// The clip that meets the casts on a root, the first of which is to the type at `goal`. None where the root is accessed
-// too, where the casts differ, where the directory has not as many leaves of the root as its type, or where there is no clip.
+// Whether a cast on a root has another target than this type.
+fn has_other_target(goal: TypeRef<'_>, used: RootUses<'_>) -> bool
+    ensures { result ≡ not (every (same_type (type_at_place goal.entry.sheet.now goal.entry.place)) (targets_on goal.entry.sheet.now used.entry.uses.casts.now used.entry.root)) }
+{
+    used.uses
+        .casts
+        .iter()
+        .any(|cast| is_unlike(goal, *cast, used.root))
+}
+
+// Whether one clip may meet the casts on a root, from its type to the target of the first: it is not accessed too, no cast
+// has another target, and the directory has as many leaves of it as its type.
+fn may_narrow(pair: TypePair<'_>, used: RootUses<'_>, leaf_count: usize) -> bool
+    ensures { result ≡ may_narrow pair.entry.sheet.now used.entry.uses used.entry.root pair.entry.place pair.entry.goal leaf_count }
+{
+    let here = pair.first();
+    !has_access(here.sheet(), used.root, used.uses.accesses)
+        && !has_other_target(pair.second(), used)
+        && leaf_count == count_leaves(here)
+}
+
+// The clip that meets the casts on a root, if one may, and there is one.
 fn narrow(
-    sheet: &Sheet,
-    place: usize,
-    root: usize,
-    goal: usize,
-    uses: &Uses<'_>,
+    pair: TypePair<'_>,
+    used: RootUses<'_>,
     leaf_count: usize,
     table: &mut ClipTable,
 ) -> Option<Clip>
-    requires here { place < length (types_in sheet.now) }
-    requires there { goal < length (types_in sheet.now) }
-    ensures { shown result table.new ≡ (if is_empty (paths_on sheet.now uses.now root) && (every (same_type (type_at_place sheet.now goal)) (targets_on sheet.now uses.now.casts.now root) && nat_eq leaf_count (leaf_count_of (type_at_place sheet.now place))) then clip_in sheet.now place goal else None) }
+    ensures { shown result table.new ≡ clip_met pair.entry.sheet.now used.entry.uses used.entry.root pair.entry.place pair.entry.goal leaf_count }
 {
-    if has_access(sheet, root, uses.accesses) {
+    if !may_narrow(pair, used, leaf_count) {
         return None;
     }
-    if has_other_target(sheet, uses.casts, root, goal) {
-        return None;
-    }
-    if leaf_count != count_leaves(sheet, place) {
-        return None;
-    }
-    clip_for_cast(sheet, place, goal, table)
+    pair.clip_for_cast(table)
 }
 
-/// How a root is read, whose type is at a place and of which the directory has so many leaves. A clip stands in the table.
+/// How a root is read, by the type of its field, and of which the directory has so many leaves. A clip stands in the table.
 pub(crate) fn read_root(
-    sheet: &Sheet,
-    place: usize,
-    root: usize,
-    uses: &Uses<'_>,
+    here: TypeRef<'_>,
+    used: RootUses<'_>,
     leaf_count: usize,
     table: &mut ClipTable,
 ) -> RootReading
-    requires { place < length (types_in sheet.now) }
-    ensures { Reads sheet.now place leaf_count (paths_on sheet.now uses.now root) result table.new (reading_of sheet.now uses.now root place leaf_count) }
+    ensures { Reads here.entry.sheet.now here.entry.place leaf_count (paths_on here.entry.sheet.now used.entry.uses used.entry.root) result table.new (reading_of here.entry.sheet.now used.entry.uses used.entry.root here.entry.place leaf_count) }
 {
-    if is_listed(uses.required, root) {
+    let sheet = here.sheet();
+    if used.uses.required.contains(&used.root) {
         return RootReading::Entire;
     }
-    let Some(goal) = cast_target(sheet, uses.casts, root) else {
-        if has_access(sheet, root, uses.accesses) {
+    let Some(goal) = cast_target(sheet, used) else {
+        if has_access(sheet, used.root, used.uses.accesses) {
             return RootReading::Along;
         }
         return RootReading::Unread;
     };
-    match narrow(sheet, place, root, goal, uses, leaf_count, table) {
-        Some(clip) => RootReading::Narrowed(clip),
+    let pair = TypePair::of(sheet, here.place(), goal);
+    match narrow(pair, used, leaf_count, table) {
+        Some(Clip) => RootReading::Narrowed,
         None => RootReading::Entire,
     }
 }

@@ -1,14 +1,8 @@
 //! What the command line asks for.
 use crate::failure::Failure;
+use directory::DirectoryKind;
 use std::alloc::Global;
 use std::env::Args;
-
-/// Which leaf directory is asked.
-#[derive(Clone, Copy)]
-pub(crate) enum DirectoryKind {
-    Listed,
-    Flattened,
-}
 
 /// The command `tick`: a sheet, by its file, and the columns that are to be read of it.
 #[derive(Drop)]
@@ -19,10 +13,7 @@ pub(crate) struct Tick {
 }
 
 fn is_flat(word: &Option<String>) -> bool {
-    match word {
-        Some(text) => text.as_str() == "--flat",
-        None => false,
-    }
+    word.as_ref().is_some_and(|text| text.as_str() == "--flat")
 }
 
 impl Tick {

@@ -1,6 +1,6 @@
 //! Why nothing, or not all, was shown.
 use crate::fault_text::FaultText;
-use sheet::Fault;
+use sheet::{Fault, Unopened};
 use std::alloc::{AllocError, AllocFailed};
 use std::fmt::Display;
 use std::{fmt, io};
@@ -43,6 +43,18 @@ impl fmt::Display for Failure {
             Failure::UnknownColumn(name) => write!(f, "unknown column: {name}"),
             Failure::System(error) => write!(f, "{error}"),
         }
+    }
+}
+
+impl From<Fault> for Failure {
+    fn from(fault: Fault) -> Failure {
+        Failure::Fault(fault)
+    }
+}
+
+impl From<Unopened> for Failure {
+    fn from(unopened: Unopened) -> Failure {
+        Failure::Fault(unopened.fault)
     }
 }
 

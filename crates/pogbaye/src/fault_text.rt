@@ -2,7 +2,7 @@
 use sheet::Fault;
 use std::fmt;
 
-// A section by its number. The header counts as 0.
+// A section by its number. The header counts as 0. A function, since the numbers are plain ones, and `Fault` is not this crate's.
 fn section_name(section: u16) -> &'static str {
     match section {
         0 => "header",

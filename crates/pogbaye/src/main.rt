@@ -12,10 +12,10 @@ mod steps;
 mod tests;
 mod ticks;
 
-use crate::arguments::{DirectoryKind, Tick};
+use crate::arguments::Tick;
 use crate::failure::Failure;
 use crate::steps::{opened, show};
-use directory::{FlattenedDirectory, ListedDirectory};
+use directory::{DirectoryKind, FlattenedDirectory, ListedDirectory};
 use std::env;
 use std::process::ExitCode;
 
@@ -27,6 +27,7 @@ lists, or with --flat those of its flattened schema.";
 
 fn tick(rt: &HostRuntime, asked: &Tick) -> Result<(), Failure> {
     let sheet = opened(rt, asked.sheet.as_str())?;
+    // Two directories and no third: each arm is the generic code for its own.
     match asked.directory {
         DirectoryKind::Listed => show(rt, &sheet, &ListedDirectory::new(&sheet), asked),
         DirectoryKind::Flattened => show(rt, &sheet, &FlattenedDirectory::new(&sheet), asked),

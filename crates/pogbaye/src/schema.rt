@@ -1,25 +1,41 @@
 //! The schema of a sheet as a tree.
 use crate::names::NameText;
-use sheet::{Sheet, TypeKind, TypeRecord};
+use sheet::{RootRecord, Sheet, TypeKind, TypeRecord};
 use std::alloc::Global;
 use std::{fmt, io};
 
-/// What a leaf holds, by its code.
+/// What a leaf holds.
 #[derive(Clone, Copy)]
-struct LeafCode(u16);
+enum LeafCode {
+    Boolean,
+    Integer,
+    Text,
+    Opaque(u16),
+}
 
-impl fmt::Display for LeafCode {
-    fn fmt<W: fmt::Write>(&self, f: &mut fmt::Formatter<W>) -> fmt::Result {
-        match self.0 {
-            1 => f.write_str("boolean"),
-            2 => f.write_str("integer"),
-            3 => f.write_str("text"),
-            code => write!(f, "opaque {code}"),
+impl From<u16> for LeafCode {
+    fn from(code: u16) -> LeafCode {
+        match code {
+            1 => LeafCode::Boolean,
+            2 => LeafCode::Integer,
+            3 => LeafCode::Text,
+            other => LeafCode::Opaque(other),
         }
     }
 }
 
-/// The kind of a type, with what its detail says.
+impl fmt::Display for LeafCode {
+    fn fmt<W: fmt::Write>(&self, f: &mut fmt::Formatter<W>) -> fmt::Result {
+        match *self {
+            LeafCode::Boolean => f.write_str("boolean"),
+            LeafCode::Integer => f.write_str("integer"),
+            LeafCode::Text => f.write_str("text"),
+            LeafCode::Opaque(code) => write!(f, "opaque {code}"),
+        }
+    }
+}
+
+/// The kind of a type by the layout's number, as a record has it, with what its detail says.
 #[derive(Clone, Copy)]
 struct KindText {
     kind: u8,
@@ -29,19 +45,19 @@ struct KindText {
 impl fmt::Display for KindText {
     fn fmt<W: fmt::Write>(&self, f: &mut fmt::Formatter<W>) -> fmt::Result {
         let detail = self.detail;
-        match TypeKind::of(self.kind) {
-            Some(TypeKind::Leaf) => {
-                let code = LeafCode(detail);
+        match TypeKind::try_from(self.kind) {
+            Ok(TypeKind::Leaf) => {
+                let code = LeafCode::from(detail);
                 write!(f, "leaf ({code})")
             }
-            Some(TypeKind::Struct) => f.write_str("Struct"),
-            Some(TypeKind::List) => f.write_str("List"),
-            Some(TypeKind::LargeList) => f.write_str("LargeList"),
-            Some(TypeKind::ListView) => f.write_str("ListView"),
-            Some(TypeKind::LargeListView) => f.write_str("LargeListView"),
-            Some(TypeKind::FixedSizeList) => write!(f, "FixedSizeList({detail})"),
-            Some(TypeKind::Map) => f.write_str("Map"),
-            None => f.write_str("no kind"),
+            Ok(TypeKind::Struct) => f.write_str("Struct"),
+            Ok(TypeKind::List) => f.write_str("List"),
+            Ok(TypeKind::LargeList) => f.write_str("LargeList"),
+            Ok(TypeKind::ListView) => f.write_str("ListView"),
+            Ok(TypeKind::LargeListView) => f.write_str("LargeListView"),
+            Ok(TypeKind::FixedSizeList) => write!(f, "FixedSizeList({detail})"),
+            Ok(TypeKind::Map) => f.write_str("Map"),
+            Err(_) => f.write_str("no kind"),
         }
     }
 }
@@ -109,17 +125,15 @@ impl<'a> TreePrinter<'a> {
 
     // How many types are around the one at a place.
     fn depth(&self, place: usize) -> usize {
-        for (depth, end) in self.ends.iter().enumerate() {
-            if *end <= place {
-                return depth;
-            }
-        }
-        self.ends.len()
+        self.ends
+            .iter()
+            .position(|end| *end <= place)
+            .unwrap_or(self.ends.len())
     }
 
     // The margin of the next type. A leaf takes the next number.
     fn margin(&mut self, kind: u8) -> Margin {
-        let Some(TypeKind::Leaf) = TypeKind::of(kind) else {
+        let Ok(TypeKind::Leaf) = TypeKind::try_from(kind) else {
             return Margin::Blank;
         };
         let leaf = self.leaves;
@@ -132,7 +146,7 @@ impl<'a> TreePrinter<'a> {
     }
 
     fn print_type(&mut self, rt: &HostRuntime, place: usize) -> io::Result<()> {
-        let record = self.sheet.type_record(place);
+        let record = self.sheet.record::<TypeRecord>(place);
         let depth = self.depth(place);
         self.ends.truncate(depth);
         self.ends.push(place.saturating_add(record.span as usize))?;
@@ -146,8 +160,8 @@ impl<'a> TreePrinter<'a> {
     }
 
     fn print_root(&mut self, rt: &HostRuntime, root: usize) -> io::Result<()> {
-        let top = self.sheet.root_record(root).type_place as usize;
-        let span = self.sheet.type_record(top).span as usize;
+        let top = self.sheet.record::<RootRecord>(root).type_place as usize;
+        let span = self.sheet.record::<TypeRecord>(top).span as usize;
         self.ends.clear();
         for place in top..top + span {
             self.print_type(rt, place)?;
@@ -163,7 +177,7 @@ pub(crate) fn print_schema<'a>(
     ticks: &'a [usize],
 ) -> io::Result<usize> {
     let mut printer = TreePrinter::new(rt.alloc(), sheet, ticks);
-    for root in 0..sheet.root_count() {
+    for root in 0..sheet.count::<RootRecord>() {
         printer.print_root(rt, root)?;
     }
     Ok(printer.leaves)

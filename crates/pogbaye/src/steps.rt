@@ -6,7 +6,10 @@ use crate::schema::print_schema;
 use crate::ticks::{Ticks, plan_ticks};
 use directory::LeafPaths;
 use planner::Plan;
-use sheet::{Sheet, open};
+use sheet::{
+    ElementRecord, ExpressionRecord, LeafRecord, NameRef, NodeRecord, RootRecord, Sheet,
+    TypeRecord, open,
+};
 use std::{fmt, fs, io};
 
 /// How many records each section of a sheet has.
@@ -17,13 +20,13 @@ impl fmt::Display for Counts<'_> {
     fn fmt<W: fmt::Write>(&self, f: &mut fmt::Formatter<W>) -> fmt::Result {
         let sheet = self.0;
         let names = sheet.names().len();
-        let types = sheet.type_count();
-        let roots = sheet.root_count();
-        let leaves = sheet.leaf_count();
-        let parts = sheet.part_count();
-        let elements = sheet.element_count();
-        let nodes = sheet.node_count();
-        let expressions = sheet.expression_count();
+        let types = sheet.count::<TypeRecord>();
+        let roots = sheet.count::<RootRecord>();
+        let leaves = sheet.count::<LeafRecord>();
+        let parts = sheet.count::<NameRef>();
+        let elements = sheet.count::<ElementRecord>();
+        let nodes = sheet.count::<NodeRecord>();
+        let expressions = sheet.count::<ExpressionRecord>();
         write!(
             f,
             "names {names}, types {types}, roots {roots}, leaves {leaves}, parts {parts}"
@@ -54,20 +57,17 @@ impl fmt::Display for Numbers<'_> {
 
 /// Reads a file and opens the sheet that it holds.
 pub(crate) fn opened(rt: &HostRuntime, path: &str) -> Result<Sheet, Failure> {
+    // A match, since the failure's text needs memory, for which a closure of `map_err` cannot ask.
     let bytes = match fs::read(rt, path) {
         Ok(bytes) => bytes,
         Err(error) => return Err(Failure::Unreadable(String::from_str(rt.alloc(), path)?, error)),
     };
     let count = bytes.len();
     println!(rt; "read {path}: {count} bytes")?;
-    match open(bytes) {
-        Ok(sheet) => {
-            let counts = Counts(&sheet);
-            println!(rt; "opened the sheet: {counts}")?;
-            Ok(sheet)
-        }
-        Err(unopened) => Err(Failure::Fault(unopened.fault)),
-    }
+    let sheet = open(bytes)?;
+    let counts = Counts(&sheet);
+    println!(rt; "opened the sheet: {counts}")?;
+    Ok(sheet)
 }
 
 fn print_plan(rt: &HostRuntime, columns: usize, plan: &Plan) -> io::Result<()> {

@@ -15,10 +15,10 @@ pub(crate) struct Ticks {
 fn roots_named(heap: Global, sheet: &Sheet, names: &[String]) -> Result<Vec<usize>, Failure> {
     let mut roots = Vec::new(heap);
     for name in names {
-        match sheet.root_named(name.as_bytes()) {
-            Some(root) => roots.push(root)?,
-            None => return Err(Failure::UnknownColumn(name.clone()?)),
-        }
+        let Some(root) = sheet.root_named(name.as_bytes()) else {
+            return Err(Failure::UnknownColumn(name.clone()?));
+        };
+        roots.push(root)?;
     }
     Ok(roots)
 }
@@ -33,11 +33,7 @@ pub(crate) fn plan_ticks<D: LeafDirectory>(
     let roots = roots_named(heap, sheet, names)?;
     let mut leaves = vec![in heap; 0usize; directory.count()]?;
     let mut fields = vec![in heap; TypeRecord::BLANK; field_room(sheet)]?;
-    match root_level_plan(sheet, directory, &roots, &mut leaves, &mut fields) {
-        Ok(plan) => {
-            leaves.truncate(plan.leaf_count());
-            Ok(Ticks { plan, leaves })
-        }
-        Err(fault) => Err(Failure::Fault(fault)),
-    }
+    let plan = root_level_plan(sheet, directory, &roots, &mut leaves, &mut fields)?;
+    leaves.truncate(plan.leaf_count());
+    Ok(Ticks { plan, leaves })
 }

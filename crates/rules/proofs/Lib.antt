@@ -1,4 +1,3 @@
-pub mod ArrayStacks
 pub mod ClipExact
 pub mod Forests
 pub mod KeptNumbers

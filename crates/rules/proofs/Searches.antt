@@ -1,6 +1,7 @@
 -- Searches over places: the steps of the loops that make them, and what they tell. Assumes nothing.
 use Rattle.std.proofs.Common.{◌≡◌, ℕ, zero, suc, ◌+◌, ◌-◌, ◌<◌, ◌≤◌, min, Bool, true, false, cond, ◌&&◌, Some, None, Option, sym, refl, ap, ◌∙◌, subst, inl, inr, arith}
 use Rattle.std.proofs.lemmas.Bool.{cases_eq}
+use Rattle.std.specs.Option.{MatchOption}
 use Rattle.rules.specs.Searches.{first_failing, or_else, earlier}
 
 -- a search goes on behind what passes the test, and stops at what does not
@@ -80,3 +81,25 @@ module _ (a b : ℕ → Bool) where
       by i true false = (least p (first_failing a (p + 1) n) (λ q e. let l = low a n (p + 1) q e in omega arith)).1
       by i false true = (least p (first_failing b (p + 1) n) (λ q e. let l = low b n (p + 1) q e in omega arith)).0
       by i false false = let m : p ≡ min p p = omega arith in ap Some m
+
+-- what `find` tells of the numbers of a range is the first of them that fails a test
+module _ (ok : ℕ → Bool) where
+  none_fails : (n p : ℕ) → ((k : ℕ) → p ≤ k → k < p + n → ok k ≡ true) → None ≡ first_failing ok p n
+  none_fails zero p h = refl
+  none_fails (suc n) p h =
+      none_fails n (p + 1) (λ k l b. h k (omega arith) (omega arith))
+      ∙ sym (ap (λ b. cond b (first_failing ok (p + 1) n) (Some p)) (h p (omega arith) (omega arith)))
+
+  one_fails : (n p i : ℕ) → p ≤ i → i < p + n → ok i ≡ false → ((k : ℕ) → p ≤ k → k < i → ok k ≡ true) → Some i ≡ first_failing ok p n
+  one_fails zero p i l b fails h = absurd (omega arith)
+  one_fails (suc n) p i l b fails h =
+      elim (cases_eq p i) [
+        | inl e ↦ ap Some (sym e) ∙ sym (ap (λ b. cond b (first_failing ok (p + 1) n) (Some p)) (ap ok e ∙ fails))
+        | inr d ↦
+            one_fails n (p + 1) i (omega arith) (omega arith) fails (λ k x y. h k (omega arith) y)
+            ∙ sym (ap (λ b. cond b (first_failing ok (p + 1) n) (Some p)) (h p (omega arith) (omega arith)))
+      ]
+
+  pub found_first : (a b : ℕ) (r : Option ℕ) → MatchOption r ((k : ℕ) → a ≤ k → k < b → ok k ≡ true) (λ i. (a ≤ i) × (i < b) × (ok i ≡ false) × ((k : ℕ) → a ≤ k → k < i → ok k ≡ true)) → r ≡ first_failing ok a (b - a)
+  found_first a b None h = none_fails (b - a) a (λ k l u. h k l (omega arith))
+  found_first a b (Some i) h = one_fails (b - a) a i h.0 (omega (arith, h.0, h.1)) h.2 h.3

@@ -1,5 +1,6 @@
 -- The ends of the records around a place, held in a stack: how a table's levels are told in one pass. Assumes nothing.
-use Rattle.std.proofs.Common.{◌≡◌, ℕ, zero, suc, ◌+◌, ◌-◌, ◌<◌, ◌≤◌, Bool, true, false, cond, ltb, List, length, get_or, set, Some, None, sym, refl, ap, ◌∙◌, subst, inl, inr, add-one, arith, length-set, get_or-set_other, get_or-set_same}
+use Rattle.std.proofs.Common.{◌≡◌, ℕ, zero, suc, ◌+◌, ◌-◌, ◌<◌, ◌≤◌, Bool, true, false, cond, ltb, List, [], ◌∷◌, ◌++◌, length, get_or, take, Some, None, sym, refl, ap, ◌∙◌, subst, inl, inr, add-one, arith, length-take}
+use Rattle.std.proofs.lemmas.List.{get_or_append_left, get_or-take, get_or-append-add}
 use Rattle.std.proofs.lemmas.Bool.{le-ltb, lt-ltb, le-leb, and_left, and_from, cases_eq}
 use Rattle.std.proofs.lemmas.Bool.Decides.{nat_tests}
 use Rattle.rules.specs.Preorder.{fills, around, level_at, spanned, placed}
@@ -42,11 +43,10 @@ above_same xs ys (suc n) q h =
     let t = ap (λ x. one_if (ltb q x)) (h n (omega arith)) in
     omega (arith, i, t)
 
--- the stack before the place p: the ends of earlier records, none above the one under it, and among them all that lie
--- behind p
+-- the stack before the place p, the first so many of a list: the ends of earlier records, none above the one under it,
+-- and among them all that lie behind p
 pub record Held (s : ℕ → ℕ) (limit p : ℕ) (ends : List ℕ) (held : ℕ) : Type 0 where
   pub few : held ≤ limit
-  pub room : length ends ≡ limit
   pub ended : (i : ℕ) → i < held → (o : ℕ) × (o < p) × (get_or ends i 0 ≡ o + s o)
   pub falling : (i j : ℕ) → i ≤ j → j < held → get_or ends j 0 ≤ get_or ends i 0
   pub counted : (q : ℕ) → p ≤ q → around s p q ≡ above ends held q
@@ -55,7 +55,6 @@ module _ (s : ℕ → ℕ) (limit p : ℕ) (ends : List ℕ) where
   popped : (held r : ℕ) → Held s limit p ends held → r ≤ held → ((i : ℕ) → r ≤ i → i < held → get_or ends i 0 ≤ p) → Held s limit p ends r
   popped held r o l h = record {
     few = omega (arith, o.few);
-    room = o.room;
     ended = λ i b. o.ended i (omega arith);
     falling = λ i j a b. o.falling i j a (omega arith);
     counted = λ q a. o.counted q a ∙ above_cut ends r held q l (λ i x y. let z = h i x y in omega arith);
@@ -75,30 +74,27 @@ module _ (s : ℕ → ℕ) (limit p : ℕ) (ends : List ℕ) where
         let a = above_all ends r p around_all in
         omega (arith, m, c, a)
 
+    -- one end more on top, in a list that has the others where they were
     pushed : (kids : ℕ → ℕ) → ((o : ℕ) → o < p → fills s (kids o) (o + 1) (o + s o) ≡ true) → r < limit
-        → Held s limit (p + 1) (set ends r (p + s p)) (r + 1)
-    pushed kids full l =
-        let w = o.room in
+        → (grown : List ℕ) → get_or grown r 0 ≡ p + s p → ((i : ℕ) → i < r → get_or grown i 0 ≡ get_or ends i 0) → Held s limit (p + 1) grown (r + 1)
+    pushed kids full l grown here there =
         let v = p + s p in
-        let here : get_or (set ends r v) r 0 ≡ v = get_or-set_same ends r v 0 (omega arith) in
-        let there : (i : ℕ) → i < r → get_or (set ends r v) i 0 ≡ get_or ends i 0 = λ i b. get_or-set_other ends r i v 0 (omega arith) in
         let below : (i : ℕ) → i < r → v ≤ get_or ends i 0 = λ i b.
         let e = o.ended i b in
         let n = nested s kids p full p e.0 (omega arith) e.1 (omega (arith, e.2, around_all i b)) in
         omega (arith, n, e.2) in
         record {
           few = omega arith;
-          room = length-set ends r v ∙ w;
           ended = λ i b. elim (cases_eq i r) [
-            | inl e ↦ (p, omega arith, ap (λ x. get_or (set ends r v) x 0) e ∙ here)
+            | inl e ↦ (p, omega arith, ap (λ x. get_or grown x 0) e ∙ here)
             | inr d ↦ let h : i < r = omega arith in let e = o.ended i h in (e.0, omega (arith, e.1), there i h ∙ e.2)
           ];
           falling = λ i j a b. elim (cases_eq j r) [
             | inl e ↦ elim (cases_eq i r) [
-              | inl f ↦ let g : j ≡ i = omega arith in omega (arith, ap (λ x. get_or (set ends r v) x 0) g)
+              | inl f ↦ let g : j ≡ i = omega arith in omega (arith, ap (λ x. get_or grown x 0) g)
               | inr d ↦
                   let h : i < r = omega arith in
-                  omega (arith, ap (λ x. get_or (set ends r v) x 0) e, here, there i h, below i h)
+                  omega (arith, ap (λ x. get_or grown x 0) e, here, there i h, below i h)
             ]
             | inr d ↦
                 let h : j < r = omega arith in
@@ -108,9 +104,9 @@ module _ (s : ℕ → ℕ) (limit p : ℕ) (ends : List ℕ) where
           counted = λ q a.
               let m = around_more s p q in
               let c = o.counted q (omega arith) in
-              let e = above_same (set ends r v) ends r q there in
+              let e = above_same grown ends r q there in
               let t = ap (λ x. one_if (ltb q x)) here in
-              let u : above (set ends r v) (r + 1) q ≡ above (set ends r v) r q + cond (ltb q (get_or (set ends r v) r 0)) 1 0 = ap (λ n. above (set ends r v) n q) (add-one r) in
+              let u : above grown (r + 1) q ≡ above grown r q + cond (ltb q (get_or grown r 0)) 1 0 = ap (λ n. above grown n q) (add-one r) in
               omega (arith, m, c, e, t, u);
         }
 
@@ -127,13 +123,12 @@ module _ (kids span : ℕ → ℕ) (n limit : ℕ) where
     pub passed : (i : ℕ) → i < p → placed kids span n limit i ≡ true
     pub stack : Held span limit p ends held
 
-  pub begun : (ends : List ℕ) → length ends ≡ limit → Searched 0 ends 0
-  begun ends w = record {
+  pub begun : (ends : List ℕ) → Searched 0 ends 0
+  begun ends = record {
     rest = search_starts (placed kids span n limit) n;
     passed = λ i b. absurd (omega arith);
     stack = record {
       few = omega arith;
-      room = w;
       ended = λ i b. absurd (omega arith);
       falling = λ i j a b. absurd (omega arith);
       counted = λ q a. refl;
@@ -156,8 +151,9 @@ module _ (kids span : ℕ → ℕ) (n limit : ℕ) where
     pub not_spanned : p < n → spanned kids span n p ≡ false → Some p ≡ first_failing (placed kids span n limit) 0 n
     not_spanned b e = search_ends (placed kids span n limit) n p b (and_left _ _ e) i.rest
 
-    pub next : p < n → (r ≡ limit → ⊥) → spanned kids span n p ≡ true → Searched (p + 1) (set ends r (p + span p)) (r + 1)
-    next b a0 a1 =
+    pub next : p < n → (r ≡ limit → ⊥) → spanned kids span n p ≡ true → (grown : List ℕ) → get_or grown r 0 ≡ p + span p → ((i : ℕ) → i < r → get_or grown i 0 ≡ get_or ends i 0)
+        → Searched (p + 1) grown (r + 1)
+    next b a0 a1 grown here there =
         let few = at_most in
         let lt : r < limit = omega arith in
         let d = level in
@@ -169,8 +165,29 @@ module _ (kids span : ℕ → ℕ) (n limit : ℕ) where
             | inl s ↦ subst (λ x. placed kids span n limit x ≡ true) (sym s) g
             | inr o ↦ i.passed j (omega arith)
           ];
-          stack = pushed span limit p ends r now_held l.last kids (λ o h. (placed_parts kids span n limit o (i.passed o h)).filled) lt;
+          stack = pushed span limit p ends r now_held l.last kids (λ o h. (placed_parts kids span n limit o (i.passed o h)).filled) lt grown here there;
         }
 
   pub done : (p : ℕ) (ends : List ℕ) (held : ℕ) → Searched p ends held → n ≤ p → None ≡ first_failing (placed kids span n limit) 0 n
   done p ends held i l = search_over (placed kids span n limit) n p l i.rest
+
+-- the stack as a list of its own: some ends on top are let go, and one is put on top
+module _ (ends left : List ℕ) (kept : left ≡ take (length left) ends) where
+  pub let_go_fewer : length left ≤ length ends
+  let_go_fewer = omega (arith, ap length kept, length-take (length left) ends)
+
+  pub let_go_same : (i : ℕ) → i < length left → get_or left i 0 ≡ get_or ends i 0
+  let_go_same i b = ap (λ xs. get_or xs i 0) kept ∙ get_or-take (length left) ends i 0 b
+
+  pub on_top : (v : ℕ) → get_or (left ++ v ∷ []) (length left) 0 ≡ v
+  on_top v = let z : length left ≡ length left + 0 = omega arith in ap (λ n. get_or (left ++ v ∷ []) n 0) z ∙ get_or-append-add left (v ∷ []) 0 0
+
+  pub under_top : (v i : ℕ) → i < length left → get_or (left ++ v ∷ []) i 0 ≡ get_or ends i 0
+  under_top v i b = get_or_append_left left (v ∷ []) 0 i b ∙ let_go_same i b
+
+  pub left_of : (p : ℕ) → ((i : ℕ) → length left ≤ i → i < length ends → get_or ends i 0 ≤ p) → (0 < length left → p < get_or left (length left - 1) 0) → Left p ends (length ends) (length left)
+  left_of p past last = record {
+    fewer = let_go_fewer;
+    past = past;
+    last = λ some. omega (arith, last some, let_go_same (length left - 1) (omega arith));
+  }

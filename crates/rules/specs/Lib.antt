@@ -1,4 +1,3 @@
-pub mod ArrayStacks
 pub mod ClipLaws
 pub mod Expressions
 pub mod Findings

@@ -3,3 +3,6 @@ pub mod Naming
 pub mod NodeReaders
 pub mod Readers
 pub mod Sheets
+pub mod Copies
+pub mod Kinded
+pub mod Siblings

@@ -8,12 +8,19 @@ use Rattle.format.specs.declared.records.LeafRecord.{LeafRecord}
 use Rattle.format.specs.declared.records.ElementRecord.{ElementRecord}
 use Rattle.format.specs.declared.records.NodeRecord.{NodeRecord}
 use Rattle.format.specs.declared.records.ExpressionRecord.{ExpressionRecord}
+use Rattle.format.specs.declared.layout.Layout.{Layout}
+use Rattle.format.specs.declared.layout.Section.{Section}
+use Rattle.format.specs.Records.{table}
 use Rattle.sheet.specs.declared.sheet.Sheet.{Sheet}
 use Rattle.sheet.specs.declared.sheet.Unopened.{Unopened}
 use Rattle.format.specs.Format.{Tables, tables_at, names_at, types_at, roots_at, leaves_at, parts_at, elements_at, nodes_at, expressions_at}
 
 abbrev pub names_in : Sheet → List ℕ
 names_in s = names_at s.layout (vec_items s.bytes)
+
+-- the records of a kind, from their section
+abbrev pub records_in : {R : Type 0} → (width : ℕ) → (List ℕ → ℕ → R) → (Layout → Section) → Sheet → List R
+records_in width from section_of s = table width from (vec_items s.bytes) (section_of s.layout).start (section_of s.layout).count
 
 abbrev pub types_in : Sheet → List TypeRecord
 types_in s = types_at s.layout (vec_items s.bytes)

@@ -1,5 +1,6 @@
 -- The trees that an opened sheet stands for. Assumes nothing.
-use Rattle.std.specs.Prelude.{ℕ, ◌<◌, Bool, List, [], ◌∷◌, map, length, Some, None, Option, ◌==◌}
+use Rattle.std.specs.Prelude.{ℕ, ◌<◌, Bool, List, [], ◌∷◌, map, length, Some, None, Option, ◌==◌, slice_index_or}
+use Rattle.rules.specs.Names.{Name}
 use Rattle.rules.specs.Preorder.{tree_at, Stands}
 use Rattle.rules.specs.Trees.{Tree, node, Forest, none, more, label, first_tree, forest}
 use Rattle.rules.specs.Types.{Wrapper, list, large_list, list_view, large_list_view, fixed_size_list, map as map_of, Ty, leaf, struct, wrap, Fields, empty, field, File}
@@ -10,7 +11,7 @@ use Rattle.format.specs.declared.records.NodeRecord.{NodeRecord}
 use Rattle.format.specs.declared.records.ElementRecord.{ElementRecord}
 use Rattle.sheet.specs.declared.sheet.Sheet.{Sheet}
 use Rattle.format.specs.Kinds.{type_kind_of}
-use Rattle.format.specs.Records.{name_bytes, no_type, no_node}
+use Rattle.format.specs.Records.{name_bytes, no_type, no_node, no_root}
 use Rattle.sheet.specs.Seen.{names_in, types_in, roots_in, nodes_in, elements_in}
 
 -- the tree of types and the tree of nodes at a place
@@ -63,6 +64,10 @@ module _ (names : List ℕ) where
   abbrev pub file_from : List (Tree TypeRecord) → File
   file_from [] = empty
   file_from (t ∷ ts) = field (name_bytes names (label t).name) (is_nullable (label t)) (type_of t) (file_from ts)
+
+-- the name of a root
+abbrev pub root_name : Sheet → ℕ → Name
+root_name s r = name_bytes (names_in s) (slice_index_or (types_in s) (slice_index_or (roots_in s) r no_root).type_place no_type).name
 
 -- the trees of the roots, and the file that they are
 abbrev pub root_trees : Sheet → List (Tree TypeRecord)

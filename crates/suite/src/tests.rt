@@ -1,6 +1,6 @@
 use directory::{FlattenedDirectory, LeafDirectory, LeafPaths, ListedDirectory};
 use planner::{field_room, root_level_plan};
-use sheet::{Fault, NameRef, Sheet, TypeRecord, open};
+use sheet::{ExpressionRecord, Fault, NameRef, NodeRecord, RootRecord, Sheet, TypeRecord, open};
 use std::alloc::Global;
 use std::process::Abort;
 use std::test::Fail;
@@ -35,25 +35,25 @@ const MARK: TypeRecord = TypeRecord {
 };
 
 fn opened(heap: Global, bytes: &[u8]) -> Result<Sheet, Fail> {
-    match open(bytes.to_vec(heap)?) {
-        Ok(sheet) => Ok(sheet),
-        Err(_) => Err(Fail::new("not opened")),
-    }
+    open(bytes.to_vec(heap)?).map_err(|_| Fail::new("not opened"))
 }
 
 // A sheet: what it holds, and zeros beyond.
 #[test]
 fn records(rt: HostRuntime) -> Result<(), Fail> {
     let sheet = opened(rt.alloc(), LEG)?;
-    assert_eq!(rt; sheet.type_count(), 4);
-    assert_eq!(rt; sheet.type_record(1).detail, 7);
-    assert_eq!(rt; sheet.name(sheet.type_record(1).name), b"leg".as_slice());
-    assert_eq!(rt; sheet.type_record(4).kind, 0);
-    assert_eq!(rt; sheet.root_record(1).type_place, 1);
+    assert_eq!(rt; sheet.count::<TypeRecord>(), 4);
+    assert_eq!(rt; sheet.record::<TypeRecord>(1).detail, 7);
+    assert_eq!(rt;
+        sheet.name(sheet.record::<TypeRecord>(1).name),
+        b"leg".as_slice()
+    );
+    assert_eq!(rt; sheet.record::<TypeRecord>(4).kind, 0);
+    assert_eq!(rt; sheet.record::<RootRecord>(1).type_place, 1);
     assert_eq!(rt; sheet.root_named(b"leg"), Some(1));
     assert_eq!(rt; sheet.root_named(b"le"), None);
-    assert_eq!(rt; sheet.node_record(0).value, -2);
-    assert_eq!(rt; sheet.expression_count(), 1);
+    assert_eq!(rt; sheet.record::<NodeRecord>(0).value, -2);
+    assert_eq!(rt; sheet.count::<ExpressionRecord>(), 1);
     assert_eq!(rt; sheet.names().len(), 15);
     Ok(())
 }
@@ -113,20 +113,18 @@ fn plans(rt: HostRuntime) -> Result<(), Fail> {
     let listed = ListedDirectory::new(&sheet);
     let mut leaves = [9usize; 4];
     let mut fields = [MARK; 5];
-    match root_level_plan(&sheet, &listed, &[1, 1], &mut leaves, &mut fields) {
-        Err(_) => Err(Fail::new("refused")),
-        Ok(plan) => {
-            assert_eq!(rt; plan.leaf_count(), 2);
-            assert_eq!(rt; plan.field_count(), 1);
-            assert_eq!(rt; plan.type_count(), 3);
-            assert_eq!(rt; leaves, [1, 2, 0, 0]);
-            assert_eq!(rt; fields[0].span, 3);
-            assert_eq!(rt; fields[2].kind, 1);
-            assert_eq!(rt; fields[3].kind, 0);
-            assert_eq!(rt; fields[4].name.len, 0);
-            Ok(())
-        }
-    }
+    let plan = root_level_plan(&sheet, &listed, &[1, 1], &mut leaves, &mut fields).map_err(
+        |_| Fail::new("refused"),
+    )?;
+    assert_eq!(rt; plan.leaf_count(), 2);
+    assert_eq!(rt; plan.field_count(), 1);
+    assert_eq!(rt; plan.type_count(), 3);
+    assert_eq!(rt; leaves, [1, 2, 0, 0]);
+    assert_eq!(rt; fields[0].span, 3);
+    assert_eq!(rt; fields[2].kind, 1);
+    assert_eq!(rt; fields[3].kind, 0);
+    assert_eq!(rt; fields[4].name.len, 0);
+    Ok(())
 }
 
 // A root that the file lacks is told by its position, and before short buffers; no buffer changes.
@@ -156,14 +154,12 @@ fn a_root_without_leaves(rt: HostRuntime) -> Result<(), Fail> {
     let flattened = FlattenedDirectory::new(&sheet);
     let mut leaves = [9usize; 1];
     let mut fields = [MARK; 1];
-    match root_level_plan(&sheet, &flattened, &[0], &mut leaves, &mut fields) {
-        Err(_) => Err(Fail::new("refused")),
-        Ok(plan) => {
-            assert_eq!(rt; plan.leaf_count(), 0);
-            assert_eq!(rt; plan.field_count(), 1);
-            assert_eq!(rt; leaves, [0]);
-            assert_eq!(rt; fields[0].kind, 1);
-            Ok(())
-        }
-    }
+    let plan = root_level_plan(&sheet, &flattened, &[0], &mut leaves, &mut fields).map_err(
+        |_| Fail::new("refused"),
+    )?;
+    assert_eq!(rt; plan.leaf_count(), 0);
+    assert_eq!(rt; plan.field_count(), 1);
+    assert_eq!(rt; leaves, [0]);
+    assert_eq!(rt; fields[0].kind, 1);
+    Ok(())
 }

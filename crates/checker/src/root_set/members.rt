@@ -5,6 +5,7 @@ ghost use Rattle.checker.specs.Found.{roots_of};
 ghost use Rattle.checker.specs.Notes.{flagged};
 
 use crate::root_set::{RootList, RootSet};
+use arrayvec::ArrayVec;
 
 impl RootSet {
     /// The set without roots.
@@ -36,15 +37,14 @@ impl RootSet {
     pub fn sorted(&self) -> RootList
         ensures { roots_of result ≡ flagged 0 self.now.flags }
     {
-        let mut roots = [0; 256];
-        let mut count = 0;
+        let mut roots = ArrayVec::new();
+        // A loop: `collect` answers a `Result`, for roots that do not fit.
         for (root, flag) in self.flags.iter().enumerate() {
             if *flag {
-                roots[count] = root;
-                count += 1;
+                roots.push(root);
             }
         }
-        RootList { roots, count }
+        RootList { roots }
     }
 }
 
@@ -52,6 +52,6 @@ impl RootList {
     pub fn as_slice(&self) -> &[usize]
         ensures { result.now ≡ roots_of self.now }
     {
-        &self.roots[..self.count]
+        self.roots.as_slice()
     }
 }

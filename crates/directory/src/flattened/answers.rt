@@ -9,8 +9,8 @@ ghost use Rattle.directory.specs.Rows.{leaf_of_row, path_to, upward, ParentsInsi
 
 use crate::directory::{LeafDirectory, LeafPaths};
 use crate::flattened::FlattenedDirectory;
-use crate::flattened::rows::LeafRow;
-use sheet::Sheet;
+use crate::flattened::rows::ElementRow;
+use sheet::{ElementRecord, Sheet};
 
 // The element that lies a number of steps above one.
 fn climb(sheet: &Sheet, parents: &[u16], from: usize, steps: usize) -> usize
@@ -20,28 +20,23 @@ fn climb(sheet: &Sheet, parents: &[u16], from: usize, steps: usize) -> usize
     ensures { result ≡ upward parents.now steps from }
 {
     let mut at = from;
-    let mut left = steps;
-    while left > 0 {
+    for _k in 0..steps {
         at = parents[at] as usize;
-        left -= 1;
     }
     at
 }
 
 impl FlattenedDirectory<'_> {
     // The row of a leaf, or none beyond the list.
-    fn row(&self, leaf: usize) -> Option<LeafRow>
+    fn row(&self, leaf: usize) -> Option<ElementRow>
         ensures leaf { option_map (leaf_of_row self.now.sheet.now self.now.parents) result ≡ slice_get (flattened_leaves self.now.sheet.now) leaf }
         ensures inside { IfSome result (λ x. (x.element < length (elements_in self.now.sheet.now)) × (length (path_to self.now.sheet.now self.now.parents x.parts x.element) ≡ x.parts)) }
     {
-        if leaf >= self.leaf_count {
-            return None;
-        }
-        Some(self.rows[leaf])
+        self.rows.get(leaf).copied()
     }
 
     // A part of the path to a row's element.
-    fn part_of_row(&self, row: LeafRow, part: usize) -> Option<&[u8]>
+    fn part_of_row(&self, row: ElementRow, part: usize) -> Option<&[u8]>
         requires { row.element < length (elements_in self.now.sheet.now) }
         ensures { option_map (λ x. x.now) result ≡ slice_get (path_to self.now.sheet.now self.now.parents row.parts row.element) part }
     {
@@ -51,7 +46,7 @@ impl FlattenedDirectory<'_> {
         }
         let steps = parts - (part + 1);
         let at = climb(self.sheet, &self.parents, row.element as usize, steps);
-        Some(self.sheet.name(self.sheet.element_record(at).name))
+        Some(self.sheet.name(self.sheet.record::<ElementRecord>(at).name))
     }
 }
 
@@ -61,36 +56,24 @@ impl LeafDirectory for FlattenedDirectory<'_> {
     ghost rising = { λ d. flattened_never_fall d.sheet.now };
 
     fn count(&self) -> usize {
-        self.leaf_count
+        self.rows.len()
     }
 
     fn root(&self, leaf: usize) -> Option<usize> {
-        match self.row(leaf) {
-            Some(row) => Some(row.root as usize),
-            None => None,
-        }
+        self.row(leaf).map(|row| row.root as usize)
     }
 
     fn parts(&self, leaf: usize) -> Option<usize> {
-        match self.row(leaf) {
-            Some(row) => Some(row.parts as usize),
-            None => None,
-        }
+        self.row(leaf).map(|row| row.parts as usize)
     }
 
     fn part_is(&self, leaf: usize, part: usize, name: &[u8]) -> Option<bool> {
-        match self.part(leaf, part) {
-            Some(bytes) => Some(bytes == name),
-            None => None,
-        }
+        self.part(leaf, part).map(|bytes| bytes == name)
     }
 }
 
 impl LeafPaths for FlattenedDirectory<'_> {
     fn part(&self, leaf: usize, part: usize) -> Option<&[u8]> {
-        match self.row(leaf) {
-            Some(row) => self.part_of_row(row, part),
-            None => None,
-        }
+        self.part_of_row(self.row(leaf)?, part)
     }
 }

@@ -10,6 +10,7 @@ use format::inner::checked;
 pub fn open(bytes: Vec<u8>) -> Result<Sheet, Unopened>
     ensures { seen result ≡ opened bytes.items }
 {
+    // A match, since both ways take the bytes along.
     match checked(&bytes) {
         Ok(layout) => Ok(Sheet { bytes, layout }),
         Err(fault) => Err(Unopened { fault, bytes }),

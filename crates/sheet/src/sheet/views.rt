@@ -1,15 +1,13 @@
 //! What a sheet holds.
 ghost use Rattle.std.specs.Prelude.{◌≡◌, length, slice_index_or};
-ghost use Rattle.format.specs.Records.{name_bytes, no_name, no_type, no_root, no_leaf, no_element, no_node, no_expression};
-ghost use Rattle.sheet.specs.Seen.{names_in, types_in, roots_in, leaves_in, parts_in, elements_in, nodes_in, expressions_in};
+ghost use Rattle.format.specs.Records.{name_bytes, table};
+ghost use Rattle.sheet.specs.Seen.{names_in, records_in};
 
+use crate::sections::SectionRecord;
 use crate::sheet::Sheet;
-use format::inner::{count_in, cut, record_in};
-use format::{
-    ElementRecord, ExpressionRecord, LeafRecord, NameRef, NodeRecord, RootRecord, TypeRecord,
-};
+use format::NameRef;
+use format::inner::{Records, cut};
 
-// Each record is looked up by its place, and is the blank record beyond its section.
 impl Sheet {
     /// The bytes that names lie in.
     pub fn names(&self) -> &[u8]
@@ -26,87 +24,24 @@ impl Sheet {
         cut(self.names(), name.start as usize, name.len as usize)
     }
 
-    pub fn type_count(&self) -> usize
-        ensures { result ≡ length (types_in self.now) }
+    // The records of a kind.
+    fn records<R: SectionRecord>(&self) -> Records<'_, R>
+        ensures { result ≡ records_in R.Record.width R.Record.from R.SectionRecord.section_of self.now }
     {
-        count_in::<TypeRecord>(&self.bytes, self.layout.types)
+        Records::of(&self.bytes, R::section(self.layout))
     }
 
-    pub fn type_record(&self, place: usize) -> TypeRecord
-        ensures { result ≡ slice_index_or (types_in self.now) place no_type }
+    /// How many records of a kind there are.
+    pub fn count<R: SectionRecord>(&self) -> usize
+        ensures { result ≡ length (records_in R.Record.width R.Record.from R.SectionRecord.section_of self.now) }
     {
-        record_in(&self.bytes, self.layout.types, place)
+        self.records::<R>().count() as usize
     }
 
-    pub fn root_count(&self) -> usize
-        ensures { result ≡ length (roots_in self.now) }
+    /// The record of a kind at a place, and the blank record beyond its section.
+    pub fn record<R: SectionRecord>(&self, place: usize) -> R
+        ensures { result ≡ slice_index_or (records_in R.Record.width R.Record.from R.SectionRecord.section_of self.now) place R.Record.blank }
     {
-        count_in::<RootRecord>(&self.bytes, self.layout.roots)
-    }
-
-    pub fn root_record(&self, place: usize) -> RootRecord
-        ensures { result ≡ slice_index_or (roots_in self.now) place no_root }
-    {
-        record_in(&self.bytes, self.layout.roots, place)
-    }
-
-    pub fn leaf_count(&self) -> usize
-        ensures { result ≡ length (leaves_in self.now) }
-    {
-        count_in::<LeafRecord>(&self.bytes, self.layout.leaves)
-    }
-
-    pub fn leaf_record(&self, place: usize) -> LeafRecord
-        ensures { result ≡ slice_index_or (leaves_in self.now) place no_leaf }
-    {
-        record_in(&self.bytes, self.layout.leaves, place)
-    }
-
-    pub fn part_count(&self) -> usize
-        ensures { result ≡ length (parts_in self.now) }
-    {
-        count_in::<NameRef>(&self.bytes, self.layout.parts)
-    }
-
-    pub fn part(&self, place: usize) -> NameRef
-        ensures { result ≡ slice_index_or (parts_in self.now) place no_name }
-    {
-        record_in(&self.bytes, self.layout.parts, place)
-    }
-
-    pub fn element_count(&self) -> usize
-        ensures { result ≡ length (elements_in self.now) }
-    {
-        count_in::<ElementRecord>(&self.bytes, self.layout.elements)
-    }
-
-    pub fn element_record(&self, place: usize) -> ElementRecord
-        ensures { result ≡ slice_index_or (elements_in self.now) place no_element }
-    {
-        record_in(&self.bytes, self.layout.elements, place)
-    }
-
-    pub fn node_count(&self) -> usize
-        ensures { result ≡ length (nodes_in self.now) }
-    {
-        count_in::<NodeRecord>(&self.bytes, self.layout.nodes)
-    }
-
-    pub fn node_record(&self, place: usize) -> NodeRecord
-        ensures { result ≡ slice_index_or (nodes_in self.now) place no_node }
-    {
-        record_in(&self.bytes, self.layout.nodes, place)
-    }
-
-    pub fn expression_count(&self) -> usize
-        ensures { result ≡ length (expressions_in self.now) }
-    {
-        count_in::<ExpressionRecord>(&self.bytes, self.layout.expressions)
-    }
-
-    pub fn expression_record(&self, place: usize) -> ExpressionRecord
-        ensures { result ≡ slice_index_or (expressions_in self.now) place no_expression }
-    {
-        record_in(&self.bytes, self.layout.expressions, place)
+        self.records::<R>().get(place)
     }
 }

@@ -1,98 +1,99 @@
-use Rattle.std.proofs.Common.{◌≡◌, ℕ, ◌+◌, true, ◌⊎◌, List, length, sym, ap, subst, inl, inr, arith}
-use Rattle.rules.specs.Keeping.{ends_here}
-use Rattle.format.specs.declared.records.TypeRecord.{TypeRecord}
-use Rattle.sheet.proofs.Sheets.{few_types}
-use Rattle.access.specs.Following.{left}
-use Rattle.access.proofs.Prunes.{Pruning, whole_written, room_for_head, prune_starts, turn, goes_on, child_dropped, child_kept, long_enough, struct_written}
+use Rattle.std.proofs.Common.{◌≡◌, ℕ, ◌+◌, ◌-◌, Some, eqb, length, drop, sym, ap, subst, ◌∙◌, inl, inr, arith, rules, length-drop, length-take-le}
+use Rattle.std.proofs.lemmas.List.{length-map}
+use denote.Enum.Bare.{differs_true, differs_false}
+use Rattle.rules.specs.Keeping.{onward}
+use Rattle.rules.specs.Trees.{preorder, size}
+use Rattle.format.specs.declared.kinds.TypeKind.TheVariants.{Struct}
+use Rattle.sheet.specs.SheetTrees.{type_tree}
+use Rattle.sheet.proofs.Readers.{type_span, name_at}
+use Rattle.access.specs.Accesses.{path_at}
+use Rattle.access.specs.Following.{left, kept_at}
+use Rattle.access.proofs.Prunes.{Pruning, kind_other, whole_kept, prune_starts, child_is, fits, child_dropped, child_kept, long_enough, struct_written}
 use Rattle.access.proofs.prune.+prune.Goals as goal
-use Rattle.access.proofs.prune.+prune.Goals.{then-head-ne-STRUCT-via-then-head-ne-STRUCT, then-head-ne-STRUCT-via-else-head-ne-STRUCT+then-ends_here, then-not-is_empty, else-not-is_empty}
+use Rattle.access.proofs.prune.+prune.Goals.{then-ne-via-then-ne, then-ne-via-else-ne+then-ends_here, After-is_empty}
 
-pub returns-then-head-ne-STRUCT : goal.returns-then-head-ne-STRUCT
-returns-then-head-ne-STRUCT t c =
-    let s = c.args.sheet.now in
-    let ps = left s c.args.depth c.args.accesses.now in
-    let why : (c.type_record-head.result.kind ≡ 2 → ⊥) ⊎ (true ≡ ends_here ps) =
-    elim c.then-head-ne-STRUCT.branch [
-      | then-head-ne-STRUCT-via-then-head-ne-STRUCT w ↦ inl w.if-head-ne-STRUCT.true
-      | then-head-ne-STRUCT-via-else-head-ne-STRUCT+then-ends_here w ↦ inr (w.if-ends_here.ensures s)
-    ] in
-    let a = whole_written s ps c.args.place c.requires.there c.type_record-head.result c.type_record-head.ensures why c.args.at c.copy_type.result c.args.fields.now c.copy_type.new.fields c.copy_type.ensures.copied c.copy_type.ensures.end in
-    record { copied = a.0; end = a.1 }
+pub returns-then-ne : goal.returns-then-ne
+returns-then-ne t c =
+    let s = c.args.here.sheet.now in
+    let p = c.args.here.place in
+    let ps = left s c.args.level.depth c.args.level.accesses.now in
+    let e = sym (whole_kept s ps p c.args.here.there (elim c.then-ne.branch [
+      | then-ne-via-then-ne w ↦ inl (kind_other _ _ c.kind.ensures (search (rules, differs_true)))
+      | then-ne-via-else-ne+then-ends_here w ↦ inr (w.if-ends_here.ensures s)
+    ])) in
+    record { copied = c.copy_into.ensures.copied ∙ ap preorder e; count = c.copy_into.ensures.count ∙ ap size e }
 
-pub overflow_add-child : goal.overflow_add-child
-overflow_add-child t c = omega (arith, few_types c.args.sheet.now, c.requires.there)
+pub loop-child-init : goal.loop-child-init
+loop-child-init t c =
+    let s = c.args.here.sheet.now in
+    let ps = left s c.args.level.depth c.args.level.accesses.now in
+    let e = c.children-child-items.ensures in
+    subst (λ it. Pruning c.args.here ps c.record-head.result c.args.fields.now it 1 0 c.args.fields.now) (sym c.into_iter-child-iterator.ensures.into_iter_gives)
+    (prune_starts c.args.here ps c.record-head.result c.args.fields.now c.children-child-items.result c.record-head.ensures e.above e.next e.left c.requires.room)
 
-pub loop-k-init : goal.loop-k-init
-loop-k-init t c =
-    let s = c.args.sheet.now in
-    prune_starts s (left s c.args.depth c.args.accesses.now) c.args.place c.requires.there c.type_record-head.result c.type_record-head.ensures c.args.at c.args.fields.now c.requires.room
+pub offset_bounds-fields-written : goal.offset_bounds-fields-written
+offset_bounds-fields-written t c = omega (arith, (fits c.loop-child.invariant c.in-Some.ensures.steps).short)
 
-pub prune-end-requires : goal.prune-end-requires
-prune-end-requires t c =
-    let s = c.args.sheet.now in
-    let l = c.loop-k in
-    let w = turn s (left s c.args.depth c.args.accesses.now) c.args.place c.requires.there c.type_record-head.result c.type_record-head.ensures c.args.at c.args.fields.now l._k l.child l.end l.children l.fields c.loop-k-test.true l.invariant in
-    (omega (arith, w.less, c.decreases), (w.there, (w.room, (c.as_slice-kept.ensures.few, w.low c.args.depth c.requires.low))))
+pub slice_bounds-prune-count : goal.slice_bounds-prune-count
+slice_bounds-prune-count t c = (fits c.loop-child.invariant c.in-Some.ensures.steps).inside
+
+pub slice_bounds-prune-start : goal.slice_bounds-prune-start
+slice_bounds-prune-start t c = (fits c.loop-child.invariant c.in-Some.ensures.steps).inside
+
+pub prune-written-requires : goal.prune-written-requires
+prune-written-requires t c =
+    let w = fits c.loop-child.invariant c.in-Some.ensures.steps in
+    let same = (child_is c.loop-child.invariant c.in-Some.ensures.steps).sheet in
+    let span = ap (λ s. type_span s c.in-Some.child.place) same in
+    let long = ap (λ s. size (type_tree s c.in-Some.child.place)) same in
+    let low = w.low c.args.level.depth c.requires.low in (
+      omega (arith, w.less, c.decreases, span),
+      (
+        omega (arith, w.room, long, length-take-le (length c.loop-child.fields - c.loop-child.written) (drop c.loop-child.written c.loop-child.fields) (omega (arith, length-drop c.loop-child.written c.loop-child.fields))),
+        omega (arith, low, long),
+      ),
+    )
+
+pub overflow_add-written : goal.overflow_add-written
+overflow_add-written t c =
+    let child = c.in-Some.child in
+    let onw = left child.sheet.now c.at-deeper.result.depth c.at-deeper.result.accesses.now in
+    let kept = ap (λ s. size (kept_at s onw child.place)) (child_is c.loop-child.invariant c.in-Some.ensures.steps).sheet in
+    omega (arith, (fits c.loop-child.invariant c.in-Some.ensures.steps).fits onw, kept, c.prune-written.ensures.count)
 
 pub overflow_add-children : goal.overflow_add-children
-overflow_add-children t c =
-    let s = c.args.sheet.now in
-    let l = c.loop-k in
-    let w = turn s (left s c.args.depth c.args.accesses.now) c.args.place c.requires.there c.type_record-head.result c.type_record-head.ensures c.args.at c.args.fields.now l._k l.child l.end l.children l.fields c.loop-k-test.true l.invariant in
-    omega (arith, w.few)
+overflow_add-children t c = omega (arith, (fits c.loop-child.invariant c.in-Some.ensures.steps).few)
 
-pub overflow_add-child-in-loop-k : goal.overflow_add-child-in-loop-k
-overflow_add-child-in-loop-k t c =
-    let s = c.args.sheet.now in
-    let l = c.loop-k in
-    let w = turn s (left s c.args.depth c.args.accesses.now) c.args.place c.requires.there c.type_record-head.result c.type_record-head.ensures c.args.at c.args.fields.now l._k l.child l.end l.children l.fields c.loop-k-test.true l.invariant in
-    omega (arith, w.reach, ap (λ (r : TypeRecord). r.span) c.type_record-record.ensures)
+-- the paths that go on at the child
+goes : (t : ℕ) (c : After-is_empty t) → left c.args.here.sheet.now (c.args.level.depth + 1) c.onward.new.paths.items ≡ onward (name_at c.args.here.sheet.now c.in-Some.child.place) (left c.args.here.sheet.now c.args.level.depth c.args.level.accesses.now)
+goes t c =
+    let same = (child_is c.loop-child.invariant c.in-Some.ensures.steps).sheet in
+    sym (ap (λ s. left s (c.args.level.depth + 1) c.onward.new.paths.items) same) ∙ c.onward.ensures ∙ ap (λ s. onward (name_at s c.in-Some.child.place) (left s c.args.level.depth c.args.level.accesses.now)) same
 
-pub loop-k-preserved : goal.loop-k-preserved
-loop-k-preserved t c =
-    let s = c.args.sheet.now in
-    let ps = left s c.args.depth c.args.accesses.now in
-    let place = c.args.place in
-    let head = c.type_record-head.result in
-    let at = c.args.at in
-    let start = c.args.fields.now in
-    let l = c.loop-k in
-    let record-there = c.type_record-record.result in
-    let kept = c.as_slice-kept.result.now in
-    let goes = goes_on s ps place c.requires.there head c.type_record-head.ensures at start l._k l.child l.end l.children l.fields c.loop-k-test.true l.invariant c.args.depth kept _ c.name.result.now record-there c.as_slice-kept.ensures.all c.onward.ensures c.name.ensures c.type_record-record.ensures in
-    let Next : ℕ × (ℕ × List TypeRecord) → Type 0 = λ x. Pruning s ps place at start (l._k + 1) (l.child + record-there.span) x.0 x.1.0 x.1.1 in
-    elim c.if-not-is_empty.branch [
-      | then-not-is_empty w ↦
-          subst Next (λ j. (sym w.end-is j, (sym w.children-is j, sym w.fields-is j)))
-          (child_kept s ps place c.requires.there head c.type_record-head.ensures at start l._k l.child l.end l.children l.fields c.loop-k-test.true l.invariant (c.args.depth + 1) record-there c.type_record-record.ensures kept goes w.if-not-is_empty.ensures w.prune-end.result w.prune-end.new.fields w.prune-end.ensures.copied w.prune-end.ensures.end w.prune-end.auto.fields)
-      | else-not-is_empty w ↦
-          subst Next (λ j. (sym w.end-is j, (sym w.children-is j, sym w.fields-is j)))
-          (child_dropped s ps place c.requires.there head c.type_record-head.ensures at start l._k l.child l.end l.children l.fields c.loop-k-test.true l.invariant (c.args.depth + 1) record-there c.type_record-record.ensures kept goes w.if-not-is_empty.ensures)
-    ]
+many : (t : ℕ) (c : After-is_empty t) → length c.onward.new.paths.items ≡ length (left c.args.here.sheet.now (c.args.level.depth + 1) c.onward.new.paths.items)
+many t c = sym (length-map c.onward.new.paths.items (λ a. drop (c.args.level.depth + 1) (path_at c.args.here.sheet.now a)))
 
-pub overflow_sub-span : goal.overflow_sub-span
-overflow_sub-span t c =
-    let s = c.args.sheet.now in
-    let l = c.loop-k in
-    let long = long_enough s (left s c.args.depth c.args.accesses.now) c.args.place c.requires.there c.type_record-head.result c.type_record-head.ensures c.args.at c.args.fields.now l._k l.child l.end l.children l.fields c.loop-k-test.false l.invariant in
-    omega (arith, long.0)
+pub loop-child-preserved-then-not-is_empty : goal.loop-child-preserved-then-not-is_empty
+loop-child-preserved-then-not-is_empty t c =
+    let s = c.args.here.sheet.now in
+    let same = (child_is c.loop-child.invariant c.in-Some.ensures.steps).sheet in
+    let went = (goal.at.loop-child-preserved-then-not-is_empty t c).After-is_empty in
+    let onw = left s (c.args.level.depth + 1) c.onward.new.paths.items in
+    let kept : kept_at c.in-Some.child.sheet.now (left c.in-Some.child.sheet.now c.at-deeper.result.depth c.at-deeper.result.accesses.now) c.in-Some.child.place ≡ kept_at s onw c.in-Some.child.place
+    = λ j. kept_at (same j) (left (same j) ((c.at-deeper.ensures.depth ∙ ap (λ n. n + 1) c.depth.ensures) j) (c.at-deeper.ensures.accesses j)) c.in-Some.child.place in
+    child_kept c.loop-child.invariant c.in-Some.ensures.steps onw (goes t went) (c.if-not-is_empty.ensures ∙ ap (λ n. eqb n 0) (many t went)) c.prune-written.result c.prune-written.new.fields _
+    (c.prune-written.ensures.copied ∙ ap preorder kept) (c.prune-written.ensures.count ∙ ap size kept) c.prune-written.auto.fields (search rules)
 
-pub overflow_cast-span : goal.overflow_cast-span
-overflow_cast-span t c =
-    let s = c.args.sheet.now in
-    let l = c.loop-k in
-    let long = long_enough s (left s c.args.depth c.args.accesses.now) c.args.place c.requires.there c.type_record-head.result c.type_record-head.ensures c.args.at c.args.fields.now l._k l.child l.end l.children l.fields c.loop-k-test.false l.invariant in
-    omega (arith, long.1)
+pub loop-child-preserved : goal.loop-child-preserved
+loop-child-preserved t c =
+    let went = (goal.at.loop-child-preserved t c).After-is_empty in
+    child_dropped c.loop-child.invariant c.in-Some.ensures.steps (left c.args.here.sheet.now (c.args.level.depth + 1) c.onward.new.paths.items) (goes t went) (c.if-not-is_empty.ensures ∙ ap (λ n. eqb n 0) (many t went))
 
-pub bounds-fields-at : goal.bounds-fields-at
-bounds-fields-at t c =
-    let s = c.args.sheet.now in
-    let low = room_for_head s (left s c.args.depth c.args.accesses.now) c.args.place c.requires.there c.type_record-head.result c.type_record-head.ensures c.args.at (length c.args.fields.now) c.requires.room in
-    omega (arith, low)
+pub overflow_cast-fields : goal.overflow_cast-fields
+overflow_cast-fields t c = omega (arith, (long_enough c.loop-child.invariant c.in-None.ensures.steps).1)
 
 pub returns : goal.returns
 returns t c =
-    let s = c.args.sheet.now in
-    let l = c.loop-k in
-    let a = struct_written s (left s c.args.depth c.args.accesses.now) c.args.place c.requires.there c.type_record-head.result c.type_record-head.ensures c.args.at c.args.fields.now l._k l.child l.end l.children l.fields c.loop-k-test.false l.invariant c.if-head-ne-STRUCT.false (c.if-ends_here.ensures s) c.requires.room in
-    record { copied = a.0; end = a.1 }
+    let two : c.kind.result ≡ Struct = search (rules, differs_false) in
+    let a = struct_written c.loop-child.invariant c.in-None.ensures.steps (c.kind.ensures ∙ ap Some two) (c.if-ends_here.ensures c.args.here.sheet.now) c.requires.room in
+    record { copied = a.0; count = a.1 }

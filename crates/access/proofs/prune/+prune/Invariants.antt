@@ -4,7 +4,7 @@ use Rattle.access.proofs.Prunes.{Pruning}
 use Rattle.access.proofs.prune.+prune.Given as goal
 
 abbrev pub decreases-prune : goal.decreases-prune
-decreases-prune l = type_span l.sheet.now l.place
+decreases-prune l = type_span l.here.sheet.now l.here.place
 
-abbrev pub invariant-loop-k : goal.invariant-loop-k
-invariant-loop-k l = Pruning l.sheet (left l.sheet l.depth l.accesses) l.place l.at l.initial.fields l._k l.child l.end l.children l.fields
+abbrev pub invariant-loop-child : goal.invariant-loop-child
+invariant-loop-child l = Pruning l.here (left l.here.sheet.now l.level.depth l.level.accesses.now) l.head l.initial.fields l.child-iterator l.written l.children l.fields

@@ -1,15 +1,12 @@
-use Rattle.std.proofs.Common.{refl}
-use Rattle.access.proofs.Follows.{found, not_here, nowhere}
+use Rattle.std.proofs.Common.{rules, tests, ◌∙◌}
+use Rattle.std.proofs.lemmas.Iterator.{YieldsList-from_slice}
+use Rattle.std.proofs.lemmas.Iterator.Search.{any_from_yields_List}
+use Rattle.access.specs.Following.{is_on}
+use Rattle.access.proofs.Follows.{any_on}
 use Rattle.access.proofs.prune.has_access.Goals as goal
 
-pub loop-access-init : goal.loop-access-init
-loop-access-init c = refl
-
-pub loop-access-preserved : goal.loop-access-preserved
-loop-access-preserved c = not_here c.args.sheet.now c.args.root c.args.accesses.now c.loop-access.access-index c.loop-access-test.true c.if-is_on.ensures c.loop-access.invariant
-
-pub returns-then-is_on : goal.returns-then-is_on
-returns-then-is_on c = found c.args.sheet.now c.args.root c.args.accesses.now c.loop-access.access-index c.loop-access-test.true c.if-is_on.ensures c.loop-access.invariant
-
 pub returns : goal.returns
-returns c = nowhere c.args.sheet.now c.args.root c.args.accesses.now c.loop-access.access-index c.loop-access-test.false c.loop-access.invariant
+returns c =
+    let s = c.args.sheet.now in
+    let xs = c.args.accesses.now in
+    any_from_yields_List (is_on s c.args.root) _ _ _ c.any.ensures.ran (YieldsList-from_slice xs cc) (λ x b q k. search (rules, tests)) ∙ any_on s c.args.root xs

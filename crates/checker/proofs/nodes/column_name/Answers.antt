@@ -1,10 +1,5 @@
-use Rattle.std.proofs.Common.{true, false, Some, ap, ◌∙◌}
-use Rattle.checker.proofs.NodeTests.{column_at}
+use Rattle.checker.proofs.NodeTests.{column_none}
 use Rattle.checker.proofs.nodes.column_name.Goals as goal
 
-pub returns-then-is_column : goal.returns-then-is_column
-returns-then-is_column c =
-    ap Some c.name.ensures ∙ column_at c.args.sheet.now c.args.place c.requires c.node_record-node.result c.node_record-node.ensures true c.if-is_column.ensures
-
-pub returns-else-is_column : goal.returns-else-is_column
-returns-else-is_column c = column_at c.args.sheet.now c.args.place c.requires c.node_record-node.result c.node_record-node.ensures false c.if-is_column.ensures
+pub returns-in_default : goal.returns-in_default
+returns-in_default c = let n = c.args.node in column_none n.sheet.now n.place n.there c.kind.result c.kind.ensures c.in_default.not-Column

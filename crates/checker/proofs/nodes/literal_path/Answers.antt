@@ -1,45 +1,34 @@
-use Rattle.std.proofs.Common.{◌+◌, sym, ap, ◌∙◌, subst, arith}
-use Rattle.format.specs.declared.records.NodeRecord.{NodeRecord}
-use Rattle.format.specs.Kinds.{node_kind_of, literal_kind_of}
+use Rattle.std.proofs.Common.{◌+◌, ◌-◌, ◌≤◌, length, ap, ◌∙◌, sym, subst, refl, rules, arith}
+use Rattle.std.proofs.lemmas.Iterator.{YieldsList-from_range, serves_from_Range}
+use Rattle.std.proofs.lemmas.Iterator.Search.{all_from_yields_List}
+use Rattle.std.specs.Bool.{then_some}
+use Rattle.std.specs.List.{range_with_len, list_all}
+use borrow.Author.Tests.{tests}
 use Rattle.sheet.specs.SheetExpressions.{expr_at}
-use Rattle.sheet.proofs.NodeReaders.{few_nodes, node_span_within}
-use Rattle.checker.specs.Predicates.{is_text_literal}
-use Rattle.checker.specs.Visits.{arguments_of, behind_first}
-use Rattle.checker.proofs.Spelling.{Spelling, spell_start, spell_room, spell_on, spell_stop, spell_end}
+use Rattle.sheet.specs.declared.sheet.Sheet.{Sheet}
+use Rattle.sheet.specs.Seen.{nodes_in}
+use Rattle.sheet.proofs.NodeReaders.{few_nodes}
+use Rattle.checker.specs.Visits.{Spelt, is_text_at, arguments_of, behind_first}
+use Rattle.checker.proofs.Spelling.{spell_room, spells_all}
 use Rattle.checker.proofs.nodes.literal_path.Goals as goal
 
 pub overflow_add-first : goal.overflow_add-first
-overflow_add-first c = omega (arith, c.requires.there, few_nodes c.args.sheet.now)
+overflow_add-first c = let n = c.args.node in omega (arith, few_nodes n.sheet.now)
 
-pub overflow_add-end : goal.overflow_add-end
-overflow_add-end c =
-    let s = c.args.sheet.now in
-    let e = ap (λ (r : NodeRecord). r.span) c.node_record.ensures in
-    omega (arith, e, few_nodes s, node_span_within s c.args.place c.requires.there)
-
-pub loop-at-init : goal.loop-at-init
-loop-at-init c =
-    let s = c.args.sheet.now in
-    let p = c.args.place in
-    let e = ap (λ (r : NodeRecord). r.span) c.node_record.ensures in
-    subst (λ n. Spelling s (behind_first (arguments_of (expr_at s p))) (p + 2) (p + 2) (p + n)) (sym e) (spell_start s p c.requires.there c.requires.column)
-
-pub returns-then-not-is_text_literal : goal.returns-then-not-is_text_literal
-returns-then-not-is_text_literal c =
-    let text = ap (λ (r : NodeRecord). is_text_literal (node_kind_of r.kind) (literal_kind_of r.literal_kind)) c.node_record-in-loop-at.ensures in
-    spell_stop c.args.sheet.now _ _ c.loop-at.at _ c.loop-at.invariant c.loop-at-test.true (sym (c.if-not-is_text_literal.ensures ∙ text))
-
-pub loop-at-preserved : goal.loop-at-preserved
-loop-at-preserved c =
-    let text = ap (λ (r : NodeRecord). is_text_literal (node_kind_of r.kind) (literal_kind_of r.literal_kind)) c.node_record-in-loop-at.ensures in
-    spell_on c.args.sheet.now _ _ c.loop-at.at _ c.loop-at.invariant c.loop-at-test.true (sym (c.if-not-is_text_literal.ensures ∙ text))
-
-pub overflow_sub-result : goal.overflow_sub-result
-overflow_sub-result c =
-    let e = ap (λ (r : NodeRecord). r.span) c.node_record.ensures in
-    omega (arith, e, spell_room c.args.sheet.now c.args.place c.requires.there c.requires.column)
+pub overflow_sub-end : goal.overflow_sub-end
+overflow_sub-end c = let n = c.args.node in omega (arith, c.end_of-end.ensures.value, spell_room n.sheet.now n.place n.there c.requires.column)
 
 pub returns : goal.returns
 returns c =
-    let e = ap (λ (r : NodeRecord). r.span) c.node_record.ensures in
-    spell_end c.args.sheet.now _ _ c.loop-at.at _ c.loop-at.invariant c.loop-at-test.false (omega (arith, e, spell_room c.args.sheet.now c.args.place c.requires.there c.requires.column, c.loop-at.auto.at-end))
+    let n = c.args.node in
+    let p = c.place-place.result in
+    let end = c.end_of-end.result in
+    let all = all_from_yields_List (is_text_at c.sheet-sheet.result.now) _ _ c.all.result c.all.ensures.ran (YieldsList-from_range (p + 2) end (end - (p + 2)) refl refl) (λ x b q k. search (rules, tests)) in
+    let is = c.then_some.ensures ∙ ap (λ b. then_some b (end - (p + 2))) all
+    ∙ (λ i. let left = c.end_of-end.ensures.value i - (c.place-place.ensures i + 2) in then_some (list_all (is_text_at (c.sheet-sheet.ensures i)) (range_with_len (c.place-place.ensures i + 2) left)) left) in
+    subst (Spelt n.sheet.now (n.place + 2) (behind_first (arguments_of (expr_at n.sheet.now n.place)))) (sym is) (spells_all n.sheet.now n.place n.there c.requires.column)
+
+pub all-requires-clause-callable : goal.all-requires-clause-callable
+all-requires-clause-callable c =
+    let low : c.end_of-end.result ≤ length (nodes_in c.sheet-sheet.result.now) = subst (λ (s : Sheet). c.end_of-end.result ≤ length (nodes_in s)) (sym c.sheet-sheet.ensures) c.end_of-end.ensures.within in
+    serves_from_Range (λ x q k. search (rules, tests)) (λ x from to. search (rules, tests))

@@ -4,8 +4,8 @@ use Rattle.format.specs.Format.{Laid, Few}
 use Rattle.format.proofs.Headers.{laid, fewer}
 use Rattle.format.proofs.opening.checked.Goals as goal
 
-pub first_bad_record-requires : goal.first_bad_record-requires
-first_bad_record-requires c =
+pub check_records-requires : goal.check_records-requires
+check_records-requires c =
     let bs = c.args.bytes.now in
     let e = c.in_ok-layout.ensures in
     record {

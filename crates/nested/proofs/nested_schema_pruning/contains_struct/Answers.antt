@@ -1,19 +1,28 @@
-use Rattle.std.proofs.Common.{refl, arith}
+use Rattle.std.proofs.Common.{◌≡◌, ◌+◌, ◌<◌, length, ap, ◌∙◌, arith}
+use Rattle.rules.specs.Types.{contains_struct}
+use Rattle.sheet.specs.Seen.{types_in}
+use Rattle.sheet.specs.SheetExpressions.{type_at_place}
 use Rattle.sheet.proofs.Sheets.{few_types}
-use Rattle.nested.proofs.Unwrapping.{no_wrapper, item}
+use Rattle.sheet.proofs.Readers.{type_span}
+use Rattle.nested.proofs.Placed.{placed}
+use Rattle.nested.proofs.Unwrapping.{Item, item}
 use Rattle.nested.proofs.nested_schema_pruning.contains_struct.Goals as goal
+use Rattle.nested.proofs.nested_schema_pruning.contains_struct.Goals.{After-place}
 
-pub loop-place-init : goal.loop-place-init
-loop-place-init c = record { there = c.requires; same = refl }
+inner : (c : After-place) → Item c.loop-at.at.sheet.now c.loop-at.at.place
+inner c = item c.loop-at.at.sheet.now c.loop-at.at.place c.loop-at.at.there c.kind.result c.kind.ensures c.in_default.not-Leaf c.in_default.not-Struct
 
-pub returns-then-kind-eq-LEAF : goal.returns-then-kind-eq-LEAF
-returns-then-kind-eq-LEAF c = no_wrapper c.args.sheet.now c.args.place c.loop-place.here c.loop-place.invariant c.type_record-kind.result c.type_record-kind.ensures c.then-kind-eq-LEAF.either
+pub overflow_add-place : goal.overflow_add-place
+overflow_add-place c = omega (arith, few_types c.loop-at.at.sheet.now, c.loop-at.at.there, c.place.ensures)
 
-pub overflow_add-here : goal.overflow_add-here
-overflow_add-here c = omega (arith, few_types c.args.sheet.now, c.loop-place.invariant.there)
+pub at-at-requires : goal.at-at-requires
+at-at-requires c = placed (λ s q. q + 1 < length (types_in s)) c.sheet.ensures c.place.ensures (inner c).there
 
-pub loop-place-smaller : goal.loop-place-smaller
-loop-place-smaller c = (item c.args.sheet.now c.args.place c.loop-place.here c.loop-place.invariant c.type_record-kind.result c.type_record-kind.ensures c.if-kind-eq-LEAF.false c.if-kind-eq-STRUCT.false).fewer
+pub loop-at-smaller : goal.loop-at-smaller
+loop-at-smaller c =
+    placed (λ s q. type_span s q < type_span c.loop-at.at.sheet.now c.loop-at.at.place) (c.at-at.ensures.sheet ∙ c.sheet.ensures) (c.at-at.ensures.place ∙ ap (λ n. n + 1) c.place.ensures) (inner (goal.at.loop-at-smaller c).After-place).fewer
 
-pub loop-place-preserved : goal.loop-place-preserved
-loop-place-preserved c = (item c.args.sheet.now c.args.place c.loop-place.here c.loop-place.invariant c.type_record-kind.result c.type_record-kind.ensures c.if-kind-eq-LEAF.false c.if-kind-eq-STRUCT.false).on
+pub loop-at-preserved : goal.loop-at-preserved
+loop-at-preserved c =
+    placed (λ s q. contains_struct (type_at_place c.args.here.sheet.now c.args.here.place) ≡ contains_struct (type_at_place s q)) (c.at-at.ensures.sheet ∙ c.sheet.ensures) (c.at-at.ensures.place ∙ ap (λ n. n + 1) c.place.ensures)
+    (c.loop-at.invariant ∙ (inner (goal.at.loop-at-preserved c).After-place).same)

@@ -1,9 +1,11 @@
+use Rattle.std.proofs.Common.{◌≡◌}
+use Rattle.rules.specs.Types.{contains_struct}
+use Rattle.sheet.specs.SheetExpressions.{type_at_place}
 use Rattle.sheet.proofs.Readers.{type_span}
-use Rattle.nested.proofs.Unwrapping.{Around}
 use Rattle.nested.proofs.nested_schema_pruning.contains_struct.Given as goal
 
-abbrev pub invariant-loop-place : goal.invariant-loop-place
-invariant-loop-place l = Around l.sheet l.place l.here
+abbrev pub invariant-loop-at : goal.invariant-loop-at
+invariant-loop-at l = contains_struct (type_at_place l.fn.here.sheet.now l.fn.here.place) ≡ contains_struct (type_at_place l.at.sheet.now l.at.place)
 
-abbrev pub decreases-loop-place : goal.decreases-loop-place
-decreases-loop-place l = type_span l.sheet l.here
+abbrev pub decreases-loop-at : goal.decreases-loop-at
+decreases-loop-at l = type_span l.at.sheet.now l.at.place

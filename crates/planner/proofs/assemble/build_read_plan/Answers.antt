@@ -1,9 +1,12 @@
-use Rattle.std.proofs.Common.{ap, arith}
-use Rattle.format.specs.declared.records.RootRecord.{RootRecord}
-use Rattle.sheet.proofs.Sheets.{root_place}
+use Rattle.std.proofs.Common.{◌≡◌, ◌-◌, ap, ◌∙◌, arith, rules}
+use Rattle.rules.specs.Trees.{size}
+use Rattle.sheet.specs.SheetTrees.{type_tree}
 use Rattle.planner.specs.ReadPlans.{uses_reading}
+use Rattle.planner.specs.Readings.{chosen_by, kept_by, paths_on}
+use Rattle.planner.proofs.Copied.{place_of}
+use Rattle.planner.proofs.Padding.{length-behind}
 use Rattle.planner.proofs.Planning.{planning_starts}
-use Rattle.planner.proofs.Bridging.{told_fits, told_short, room_at_root, root_planned, one_at_most, all_planned}
+use Rattle.planner.proofs.Bridging.{told_there, told_fits, told_short, room_at_root, root_planned, all_planned}
 use Rattle.planner.proofs.assemble.build_read_plan.Goals as goal
 
 pub loop-root-init : goal.loop-root-init
@@ -12,58 +15,55 @@ loop-root-init g c =
     let ls = g.D.LeafDirectory.leaves c.args.directory.now in
     planning_starts s ls (uses_reading s ls c.args.uses.now) c.args.leaves.now c.args.fields.now c.requires.fields
 
-pub leaves_end-end-requires : goal.leaves_end-end-requires
-leaves_end-end-requires g c = c.loop-root.invariant.at.within
+pub choose_root-requires-clause-clip : goal.choose_root-requires-clause-clip
+choose_root-requires-clause-clip g c =
+    told_fits c.args.uses.now c.loop-root.root c.read_root-reading.result c.read_root-reading.new.table c.root_type-here.result.sheet.now c.root_type-here.result.place c.len.result c.read_root-reading.ensures
+    c.of_root-own.result.first c.of_root-own.result.end c.len.ensures
 
-pub read_root-reading-requires : goal.read_root-reading-requires
-read_root-reading-requires g c =
-    let e = ap (λ (r : RootRecord). r.type_place) c.root_record-place.ensures in
-    omega (arith, e, root_place c.args.sheet.now c.loop-root.root (omega arith))
-
-pub choose_root-chosen-requires-clause-low : goal.choose_root-chosen-requires-clause-low
-choose_root-chosen-requires-clause-low g c = c.loop-root.invariant.few
-
-pub choose_root-chosen-requires-clause-clip : goal.choose_root-chosen-requires-clause-clip
-choose_root-chosen-requires-clause-clip g c =
-    told_fits c.args.sheet.now c.args.uses.now c.loop-root.root c.root_record-place.result.type_place c.loop-root.first c.leaves_end-end.result c.read_root-reading.result c.read_root-reading.new.table c.read_root-reading.ensures
-
-pub keep_root-types-requires-clause-there : goal.keep_root-types-requires-clause-there
-keep_root-types-requires-clause-there g c =
-    let e = ap (λ (r : RootRecord). r.type_place) c.root_record-place.ensures in
-    omega (arith, e, root_place c.args.sheet.now c.loop-root.root (omega arith))
-
-pub keep_root-types-requires-clause-room : goal.keep_root-types-requires-clause-room
-keep_root-types-requires-clause-room g c =
+pub keep_root-requires-clause-room : goal.keep_root-requires-clause-room
+keep_root-requires-clause-room g c =
+    let s = c.args.sheet.now in
+    let ls = g.D.LeafDirectory.leaves c.args.directory.now in
     let l = c.loop-root in
-    let e = ap (λ (r : RootRecord). r.type_place) c.root_record-place.ensures in
-    room_at_root c.args.sheet.now (g.D.LeafDirectory.leaves c.args.directory.now) c.args.uses.now l.root l.first l.chosen l.count l.types c.root_record-place.result.type_place l.leaves l.fields (omega arith) e l.invariant
+    let here = c.root_type-here in
+    let e : size (type_tree here.result.sheet.now here.result.place) ≡ size (type_tree s (place_of s l.root)) = λ k. size (type_tree (here.ensures.sheet k) (here.ensures.place k)) in
+    omega (arith, length-behind l.plan.types l.fields, room_at_root s ls c.args.uses.now l.root l.first l.plan.leaves l.plan.fields l.plan.types l.leaves l.fields (omega arith) l.invariant)
 
-pub keep_root-types-requires-clause-clip : goal.keep_root-types-requires-clause-clip
-keep_root-types-requires-clause-clip g c =
-    told_short c.args.sheet.now c.args.uses.now c.loop-root.root c.root_record-place.result.type_place c.loop-root.first c.leaves_end-end.result c.read_root-reading.result c.read_root-reading.new.table c.read_root-reading.ensures
+pub keep_root-requires-clause-clip : goal.keep_root-requires-clause-clip
+keep_root-requires-clause-clip g c =
+    told_short c.args.uses.now c.loop-root.root c.read_root-reading.result c.read_root-reading.new.table c.root_type-here.result.sheet.now c.root_type-here.result.place c.len.result c.read_root-reading.ensures
 
-pub overflow_add-count : goal.overflow_add-count
-overflow_add-count g c = omega (arith, c.loop-root.invariant.some, one_at_most c.read_root-reading.result, c.field_count-count.ensures)
+pub overflow_add-plan-in-loop-root : goal.overflow_add-plan-in-loop-root
+overflow_add-plan-in-loop-root g c =
+    let s = c.args.sheet.now in
+    let ls = g.D.LeafDirectory.leaves c.args.directory.now in
+    let l = c.loop-root in
+    let here = c.root_type-here in
+    let e : size (type_tree here.result.sheet.now here.result.place) ≡ size (type_tree s (place_of s l.root)) = λ k. size (type_tree (here.ensures.sheet k) (here.ensures.place k)) in
+    omega (arith, c.keep_root.ensures.count, room_at_root s ls c.args.uses.now l.root l.first l.plan.leaves l.plan.fields l.plan.types l.leaves l.fields (omega arith) l.invariant)
 
 pub loop-root-preserved : goal.loop-root-preserved
 loop-root-preserved g c =
+    let s = c.args.sheet.now in
+    let ls = g.D.LeafDirectory.leaves c.args.directory.now in
+    let u = c.args.uses.now in
     let l = c.loop-root in
-    let e = ap (λ (r : RootRecord). r.type_place) c.root_record-place.ensures in
-    root_planned c.args.sheet.now (g.D.LeafDirectory.leaves c.args.directory.now) c.args.uses.now l.root l.first l.chosen l.count l.types c.root_record-place.result.type_place l.leaves l.fields (omega arith) e l.invariant
-    (g.D.LeafDirectory.rising c.args.directory.now) c.leaves_end-end.result c.leaves_end-end.ensures c.read_root-reading.result c.read_root-reading.new.table c.read_root-reading.ensures
-    c.choose_root-chosen.result c.field_count-count.result c.keep_root-types.result c.choose_root-chosen.new.mask c.keep_root-types.new.fields
-    c.choose_root-chosen.ensures.chosen c.choose_root-chosen.ensures.count c.keep_root-types.ensures.kept c.keep_root-types.ensures.end (omega arith) c.field_count-count.ensures
-
-pub blank_from-requires : goal.blank_from-requires
-blank_from-requires g c = omega (arith, c.loop-root.invariant.few, c.loop-root.invariant.at.within)
-
-pub blank_from-requires-2 : goal.blank_from-requires-2
-blank_from-requires-2 g c = omega (arith, c.loop-root.invariant.room)
+    let here = c.root_type-here in
+    let own = c.of_root-own in
+    let told = c.read_root-reading in
+    let e : size (type_tree here.result.sheet.now here.result.place) ≡ size (type_tree s (place_of s l.root)) = λ k. size (type_tree (here.ensures.sheet k) (here.ensures.place k)) in
+    root_planned s ls u l.root l.first l.plan.leaves l.plan.fields l.plan.types l.leaves l.fields (omega arith) l.invariant
+    (g.D.LeafDirectory.rising c.args.directory.now) own.result.end own.ensures.run told.result told.new.table
+    (told_there u l.root told.result told.new.table here.result.sheet.now s here.result.place (place_of s l.root) c.len.result (own.result.end - l.first) here.ensures.sheet here.ensures.place (c.len.ensures ∙ ap (λ f. own.result.end - f) own.ensures.first) told.ensures)
+    c.choose_root.result c.field_count.result c.keep_root.result c.choose_root.new.mask c.keep_root.new.fields c.choose_root.auto.mask c.keep_root.auto.fields (omega (arith, c.requires.leaves))
+    (c.choose_root.ensures.chosen ∙ ap (λ f. chosen_by ls (paths_on s u l.root) told.result told.new.table f own.result.end) own.ensures.first) (omega (arith, c.choose_root.ensures.count, own.ensures.first))
+    (c.keep_root.ensures.kept ∙ (λ k. kept_by (here.ensures.sheet k) (here.ensures.place k) (paths_on (here.ensures.sheet k) u l.root) told.result told.new.table)) (omega (arith, c.keep_root.ensures.count))
+    c.field_count.ensures
 
 pub returns : goal.returns
 returns g c =
     let s = c.args.sheet.now in
     let ls = g.D.LeafDirectory.leaves c.args.directory.now in
     let l = c.loop-root in
-    all_planned s ls (uses_reading s ls c.args.uses.now) l.root l.first l.chosen l.count l.types l.leaves l.fields (omega arith) l.invariant
-    c.args.leaves.now c.blank_from.new.buffer c.args.fields.now c.blank_from-2.new.buffer (omega arith) (omega arith) c.requires.leaves c.blank_from.ensures c.blank_from-2.ensures
+    all_planned s ls (uses_reading s ls c.args.uses.now) l.root l.first l.plan.leaves l.plan.fields l.plan.types l.leaves l.fields (omega arith) l.invariant
+    c.args.leaves.now c.fill.new.self c.args.fields.now c.fill-2.new.self (omega arith) (omega arith) c.requires.leaves (c.fill.ensures.after (λ y h. search rules)) (c.fill-2.ensures.after (λ y h. search rules))

@@ -1,5 +1,5 @@
-use Rattle.std.proofs.Common.{◌≡◌, ◌+◌, ◌++◌, map, take}
+use Rattle.std.proofs.Common.{◌≡◌, ◌+◌, map, take}
 use Rattle.planner.proofs.leaves.choose_kept.Given as goal
 
 abbrev pub invariant-loop-k : goal.invariant-loop-k
-invariant-loop-k l = take (l.count + l.k) l.mask ≡ take l.count l.initial.mask ++ map (λ o. l.first + o) (take l.k l.offsets)
+invariant-loop-k l = take l.k l.mask ≡ map (λ o. l.first + o) (take l.k l.offsets)

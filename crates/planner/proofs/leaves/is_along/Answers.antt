@@ -1,18 +1,14 @@
+use Rattle.std.proofs.Common.{[], ◌∷◌, rules, tests, ◌∙◌}
+use Rattle.std.proofs.lemmas.Iterator.{YieldsList-from_slice}
+use Rattle.std.proofs.lemmas.Iterator.Search.{any_from_yields_List}
+use Rattle.rules.specs.ReadPlan.{is_along, on}
+use Rattle.access.specs.Accesses.{accesses_in}
 use Rattle.planner.specs.Segments.{parts_of}
-use Rattle.planner.proofs.Along.{along_here, along_later, along_nowhere}
+use Rattle.planner.proofs.Along.{any_along}
 use Rattle.planner.proofs.leaves.is_along.Goals as goal
-
-pub returns-then-leads_to : goal.returns-then-leads_to
-returns-then-leads_to g c =
-    along_here c.args.sheet.now c.args.root (parts_of (g.D.LeafDirectory.leaves c.args.directory.now) c.args.leaf) c.args.accesses.now c.loop-access.access-index _ _
-    c.loop-access-test.true c.leads_to.ensures c.loop-access.invariant c.if-leads_to.true
-
-pub loop-access-preserved : goal.loop-access-preserved
-loop-access-preserved g c =
-    along_later c.args.sheet.now c.args.root (parts_of (g.D.LeafDirectory.leaves c.args.directory.now) c.args.leaf) c.args.accesses.now c.loop-access.access-index _ _
-    c.loop-access-test.true c.leads_to.ensures c.loop-access.invariant c.if-leads_to.false
 
 pub returns : goal.returns
 returns g c =
-    along_nowhere c.args.sheet.now c.args.root (parts_of (g.D.LeafDirectory.leaves c.args.directory.now) c.args.leaf) c.args.accesses.now c.loop-access.access-index
-    c.loop-access-test.false c.loop-access.invariant
+    let s = c.args.sheet.now in
+    let parts = parts_of (g.D.LeafDirectory.leaves c.args.directory.now) c.args.leaf in
+    any_from_yields_List (λ a. is_along (on c.args.used.root (accesses_in s (a ∷ []))) parts) _ _ _ c.any.ensures.ran (YieldsList-from_slice c.args.used.uses.accesses.now cc) (λ x b q k. search (rules, tests)) ∙ any_along s c.args.used.root parts c.args.used.uses.accesses.now

@@ -1,13 +1,13 @@
-use Rattle.std.proofs.Common.{arith}
-use Rattle.planner.proofs.Runs.{searching_on, search_stops}
+use Rattle.std.proofs.Common.{◌≡◌, ◌≢◌, Some, sym, subst, rules, tests}
+use Rattle.std.proofs.lemmas.Iterator.{first_from_Range}
+use Rattle.rules.specs.Leaves.{root_at}
+use Rattle.planner.specs.Segments.{Run}
+use Rattle.planner.proofs.Runs.{run_found}
 use Rattle.planner.proofs.leaves.leaves_end.Goals as goal
 
-pub returns-then-not-is_on : goal.returns-then-not-is_on
-returns-then-not-is_on g c =
-    search_stops (g.D.LeafDirectory.leaves c.args.directory.now) c.args.root c.args.first c.loop-leaf.leaf _
-    (omega arith) (omega arith) c.is_on.ensures c.if-not-is_on.true c.loop-leaf.invariant
-
-pub loop-leaf-preserved : goal.loop-leaf-preserved
-loop-leaf-preserved g c =
-    searching_on (g.D.LeafDirectory.leaves c.args.directory.now) c.args.root c.args.first c.loop-leaf.leaf _
-    (omega arith) c.is_on.ensures c.if-not-is_on.false c.loop-leaf.invariant
+pub returns : goal.returns
+returns g c =
+    let ls = g.D.LeafDirectory.leaves c.args.directory.now in
+    subst (Run ls c.args.root c.args.first) (sym c.unwrap_or.ensures)
+    (run_found ls c.args.root c.args.first c.count-count.result c.find.result c.count-count.ensures c.requires
+    (first_from_Range _ _ _ c.find.result (λ k. root_at ls k ≢ Some c.args.root) (λ k. root_at ls k ≡ Some c.args.root) c.find.ensures.ran (λ k f e. search (rules, tests)) (λ k f e. search (rules, tests))))

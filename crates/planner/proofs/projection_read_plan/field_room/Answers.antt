@@ -1,24 +1,21 @@
-use Rattle.std.proofs.Common.{get_or, ap, ◌∙◌, arith}
-use Rattle.format.specs.declared.records.RootRecord.{RootRecord}
-use Rattle.format.specs.declared.records.TypeRecord.{TypeRecord}
-use Rattle.format.specs.Records.{no_type}
-use Rattle.sheet.specs.Seen.{types_in}
-use Rattle.sheet.proofs.Sheets.{few_roots}
-use Rattle.planner.proofs.Copied.{none_summed, one_summed, all_summed}
+use Rattle.std.proofs.Common.{refl, ◌∙◌, arith, rules, tests}
+use Rattle.std.proofs.lemmas.Iterator.{YieldsList-from_range, YieldsList-from_map}
+use Rattle.std.proofs.lemmas.Iterator.Consumers.{YieldsList-at, sum_by_from_yields_List, fits_by_from_yields_list}
+use Rattle.std.specs.List.{range_with_len}
+use Rattle.planner.specs.RootPlans.{span_of}
+use Rattle.planner.proofs.Copied.{spans_all, spans_few}
 use Rattle.planner.proofs.projection_read_plan.field_room.Goals as goal
 
-pub loop-root-init : goal.loop-root-init
-loop-root-init c = none_summed c.args.sheet.now
-
-pub overflow_add-sum : goal.overflow_add-sum
-overflow_add-sum c = omega (arith, c.loop-root.invariant.few, few_roots c.args.sheet.now)
-
-pub loop-root-preserved : goal.loop-root-preserved
-loop-root-preserved c =
-    let s = c.args.sheet.now in
-    let e = ap (λ (r : RootRecord). r.type_place) c.root_record-place.ensures in
-    one_summed s c.loop-root.root c.loop-root.sum _ (omega arith)
-    (ap (λ (t : TypeRecord). t.span) c.type_record.ensures ∙ ap (λ p. (get_or (types_in s) p no_type).span) e) c.loop-root.invariant
+pub sum-requires-clause-fits : goal.sum-requires-clause-fits
+sum-requires-clause-fits c =
+    let n = c.count.result in
+    fits_by_from_yields_list (span_of c.args.sheet.now) (range_with_len 0 n) c.map.result _
+    (YieldsList-from_map _ (span_of c.args.sheet.now) (YieldsList-at c.map.ensures.source (YieldsList-from_range 0 n n refl (omega arith))) c.map.ensures.closure (λ x r q k. search (rules, tests)))
+    (omega (arith, spans_all c.args.sheet.now n c.count.ensures, spans_few c.args.sheet.now))
 
 pub returns : goal.returns
-returns c = all_summed c.args.sheet.now c.loop-root.root c.loop-root.sum (omega arith) c.loop-root.invariant
+returns c =
+    let n = c.count.result in
+    sum_by_from_yields_List (span_of c.args.sheet.now) (range_with_len 0 n) c.map.result c.sum.result c.sum.ensures.ran
+    (YieldsList-from_map _ (span_of c.args.sheet.now) (YieldsList-at c.map.ensures.source (YieldsList-from_range 0 n n refl (omega arith))) c.map.ensures.closure (λ x r q k. search (rules, tests)))
+    ∙ spans_all c.args.sheet.now n c.count.ensures

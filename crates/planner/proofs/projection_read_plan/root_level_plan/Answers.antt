@@ -6,4 +6,4 @@ pub returns : goal.returns
 returns g c =
     planned_is c.args.sheet.now (g.D.LeafDirectory.leaves c.args.directory.now) c.args.roots.now c.args.leaves.now c.args.fields.now
     _ _ _ _ _ c.in_default.ensures (omega arith) (omega arith)
-    c.choose_leaves-chosen.ensures.count c.copy_fields-count.ensures.count c.copy_fields-count.ensures.types c.choose_leaves-chosen.ensures.chosen c.copy_fields-count.ensures.copied
+    c.choose_leaves-chosen.ensures.count c.copy_fields-schema.ensures.fields c.copy_fields-schema.ensures.types c.choose_leaves-chosen.ensures.chosen c.copy_fields-schema.ensures.copied

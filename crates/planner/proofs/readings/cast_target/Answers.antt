@@ -1,14 +1,14 @@
-use Rattle.std.proofs.Common.{◌∙◌}
-use Rattle.planner.proofs.Targeting.{another, first_here, first_nowhere}
+use Rattle.std.proofs.Common.{Bor, rules, tests}
+use Rattle.std.proofs.lemmas.Iterator.{YieldsList-from_slice}
+use Rattle.std.proofs.lemmas.Iterator.Search.{find_from_yields_List}
+use Rattle.access.specs.declared.accesses.CastColumnAccess.{CastColumnAccess}
+use Rattle.planner.specs.Targets.{is_cast_on}
+use Rattle.planner.proofs.Targeting.{mapped, first_target}
 use Rattle.planner.proofs.readings.cast_target.Goals as goal
 
-pub returns-then-is_cast_on : goal.returns-then-is_cast_on
-returns-then-is_cast_on c =
-    first_here c.args.sheet.now c.args.root c.args.casts.now c.loop-cast.cast-index _ c.loop-cast-test.true _ c.is_cast_on.ensures c.if-is_cast_on.true c.loop-cast.invariant
-
-pub loop-cast-preserved : goal.loop-cast-preserved
-loop-cast-preserved c =
-    c.loop-cast.invariant ∙ another c.args.sheet.now c.args.root c.args.casts.now c.loop-cast.cast-index _ c.loop-cast-test.true _ c.is_cast_on.ensures c.if-is_cast_on.false
-
 pub returns : goal.returns
-returns c = first_nowhere c.args.sheet.now c.args.root c.args.casts.now c.loop-cast.cast-index c.loop-cast-test.false c.loop-cast.invariant
+returns c =
+    let s = c.args.sheet.now in
+    first_target s c.args.used.root c.args.used.uses.casts.now c.find.result c.map.result
+    (find_from_yields_List (λ x. is_cast_on s x c.args.used.root) _ _ c.find.result c.find.ensures.ran (YieldsList-from_slice c.args.used.uses.casts.now cc) (λ x b q k. search (rules, tests)))
+    (mapped _ (λ (x : Bor CastColumnAccess). x.now.target_type) (λ x y h. search (rules, tests)) c.find.result c.map.result c.map.ensures.cases)

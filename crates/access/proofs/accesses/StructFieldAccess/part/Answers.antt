@@ -8,4 +8,4 @@ use Rattle.access.proofs.accesses.StructFieldAccess.part.Goals as goal
 pub returns : goal.returns
 returns c =
     let s = c.args.sheet.now in
-    c.name.ensures ∙ ap (λ (n : NodeRecord). name_bytes (names_in s) n.name) (c.node_record.ensures ∙ node_there s _ c.saturating_add-place.result c.saturating_add-place.ensures)
+    c.name.ensures ∙ ap (λ (n : NodeRecord). name_bytes (names_in s) n.name) (c.record.ensures ∙ node_there s _ c.saturating_add-place.result c.saturating_add-place.ensures)

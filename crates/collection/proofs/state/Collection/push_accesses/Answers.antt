@@ -1,20 +1,26 @@
-use Rattle.std.proofs.Common.{take, arith}
+use Rattle.std.proofs.Common.{◌≡◌, take, Err, arith, rules}
+use Rattle.std.proofs.lemmas.List.{length-take-le}
+use Rattle.std.proofs.lemmas.Bool.{le-leb, lt-leb}
+use Rattle.format.specs.declared.fault.Fault.TheVariants.{TablesFull}
 use Rattle.collection.specs.Views.{held}
-use Rattle.collection.proofs.Pushing.{several_more, none_more}
+use Rattle.collection.proofs.Pushing.{taken, refused}
 use Rattle.collection.proofs.state.Collection.push_accesses.Goals as goal
 
-pub returns-then-not-append : goal.returns-then-not-append
+pub returns-in_err-self : goal.returns-in_err-self
 unfolding held
-returns-then-not-append c =
-    let self = c.args.self.now in
+returns-in_err-self c =
+    let self = c.args.self.now.counts in
     let t = c.args.records.now in
-    none_more 256 (λ xs. record { expressions = take self.expressions t.expressions; casts = take self.casts t.casts; accesses = xs }) t.accesses c.append.new.table c.args.accesses.now self.accesses c.args.expression c.append.result
-    (omega arith) (omega arith) c.append.ensures.fits c.append.ensures.written c.if-not-append.true
+    let xs = c.args.accesses.now in
+    let short = length-take-le self.accesses t.accesses (omega arith) in
+    let told : c.from_residual.result ≡ Err (TablesFull c.args.expression) = search rules in
+    refused (λ w. record { expressions = take self.expressions t.expressions; casts = take self.casts t.casts; accesses = w }) (take self.accesses t.accesses) _ xs c.args.expression _ _ told (lt-leb _ _ (omega (arith, short, c.in_err-self.ensures.1))) c.in_err-self.ensures.2
 
 pub returns : goal.returns
 unfolding held
 returns c =
-    let self = c.args.self.now in
+    let self = c.args.self.now.counts in
     let t = c.args.records.now in
-    several_more 256 (λ xs. record { expressions = take self.expressions t.expressions; casts = take self.casts t.casts; accesses = xs }) t.accesses c.append.new.table c.args.accesses.now self.accesses c.args.expression c.append.result
-    (omega arith) (omega arith) c.append.ensures.fits c.append.ensures.written c.if-not-append.false
+    let xs = c.args.accesses.now in
+    let short = length-take-le self.accesses t.accesses (omega arith) in
+    taken (λ w. record { expressions = take self.expressions t.expressions; casts = take self.casts t.casts; accesses = w }) (take self.accesses t.accesses) _ xs c.args.expression _ (le-leb _ _ (omega (arith, short, c.in_ok-self.ensures.0, c.in_ok-self.ensures.1))) c.in_ok-self.ensures.2

@@ -1,20 +1,26 @@
-use Rattle.std.proofs.Common.{take, arith}
+use Rattle.std.proofs.Common.{◌≡◌, take, Err, arith, rules}
+use Rattle.std.proofs.lemmas.List.{length-take-le}
+use Rattle.std.proofs.lemmas.Bool.{le-leb, lt-leb}
+use Rattle.format.specs.declared.fault.Fault.TheVariants.{TablesFull}
 use Rattle.collection.specs.Views.{held}
-use Rattle.collection.proofs.Pushing.{several_more, none_more}
+use Rattle.collection.proofs.Pushing.{taken, refused}
 use Rattle.collection.proofs.state.Collection.push_casts.Goals as goal
 
-pub returns-then-not-append : goal.returns-then-not-append
+pub returns-in_err-self : goal.returns-in_err-self
 unfolding held
-returns-then-not-append c =
-    let self = c.args.self.now in
+returns-in_err-self c =
+    let self = c.args.self.now.counts in
     let t = c.args.records.now in
-    none_more 64 (λ cs. record { expressions = take self.expressions t.expressions; casts = cs; accesses = take self.accesses t.accesses }) t.casts c.append.new.table c.args.casts.now self.casts c.args.expression c.append.result
-    (omega arith) (omega arith) c.append.ensures.fits c.append.ensures.written c.if-not-append.true
+    let xs = c.args.casts.now in
+    let short = length-take-le self.casts t.casts (omega arith) in
+    let told : c.from_residual.result ≡ Err (TablesFull c.args.expression) = search rules in
+    refused (λ w. record { expressions = take self.expressions t.expressions; casts = w; accesses = take self.accesses t.accesses }) (take self.casts t.casts) _ xs c.args.expression _ _ told (lt-leb _ _ (omega (arith, short, c.in_err-self.ensures.1))) c.in_err-self.ensures.2
 
 pub returns : goal.returns
 unfolding held
 returns c =
-    let self = c.args.self.now in
+    let self = c.args.self.now.counts in
     let t = c.args.records.now in
-    several_more 64 (λ cs. record { expressions = take self.expressions t.expressions; casts = cs; accesses = take self.accesses t.accesses }) t.casts c.append.new.table c.args.casts.now self.casts c.args.expression c.append.result
-    (omega arith) (omega arith) c.append.ensures.fits c.append.ensures.written c.if-not-append.false
+    let xs = c.args.casts.now in
+    let short = length-take-le self.casts t.casts (omega arith) in
+    taken (λ w. record { expressions = take self.expressions t.expressions; casts = w; accesses = take self.accesses t.accesses }) (take self.casts t.casts) _ xs c.args.expression _ (le-leb _ _ (omega (arith, short, c.in_ok-self.ensures.0, c.in_ok-self.ensures.1))) c.in_ok-self.ensures.2

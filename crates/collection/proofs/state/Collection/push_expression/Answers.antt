@@ -1,18 +1,26 @@
-use Rattle.std.proofs.Common.{take, arith}
+use Rattle.std.proofs.Common.{◌≡◌, [], ◌∷◌, take, Err, arith, rules}
+use Rattle.std.proofs.lemmas.List.{length-take-le}
+use Rattle.std.proofs.lemmas.Bool.{lt-ltb, le-ltb}
+use Rattle.format.specs.declared.fault.Fault.TheVariants.{TablesFull}
 use Rattle.collection.specs.Views.{held}
-use Rattle.collection.proofs.Pushing.{one_more, no_more}
+use Rattle.collection.proofs.Pushing.{taken, refused}
 use Rattle.collection.proofs.state.Collection.push_expression.Goals as goal
 
-pub returns-then-self-ge64 : goal.returns-then-self-ge64
+pub returns-in_err-self : goal.returns-in_err-self
 unfolding held
-returns-then-self-ge64 c =
-    let self = c.args.self.now in
+returns-in_err-self c =
+    let self = c.args.self.now.counts in
     let t = c.args.records.now in
-    no_more (take self.casts t.casts) (take self.accesses t.accesses) t.expressions self.expressions c.args.expression (omega arith) (omega arith)
+    let xs = (c.args.expression ∷ []) in
+    let short = length-take-le self.expressions t.expressions (omega arith) in
+    let told : c.from_residual.result ≡ Err (TablesFull c.args.expression) = search rules in
+    refused (λ w. record { expressions = w; casts = take self.casts t.casts; accesses = take self.accesses t.accesses }) (take self.expressions t.expressions) _ xs c.args.expression _ _ told (le-ltb _ _ (omega (arith, short, c.in_err-self.ensures.1))) c.in_err-self.ensures.2
 
 pub returns : goal.returns
 unfolding held
 returns c =
-    let self = c.args.self.now in
+    let self = c.args.self.now.counts in
     let t = c.args.records.now in
-    one_more (take self.casts t.casts) (take self.accesses t.accesses) t.expressions self.expressions c.args.expression (omega arith) (omega arith)
+    let xs = (c.args.expression ∷ []) in
+    let short = length-take-le self.expressions t.expressions (omega arith) in
+    taken (λ w. record { expressions = w; casts = take self.casts t.casts; accesses = take self.accesses t.accesses }) (take self.expressions t.expressions) _ xs c.args.expression _ (lt-ltb _ _ (omega (arith, short, c.in_ok-self.ensures.0, c.in_ok-self.ensures.1))) c.in_ok-self.ensures.2

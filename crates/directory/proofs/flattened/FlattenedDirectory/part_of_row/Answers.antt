@@ -15,11 +15,11 @@ returns-then-part-parts c =
 pub climb-at-requires : goal.climb-at-requires
 climb-at-requires c =
     let d = c.args.self.now in
-    record { climbs = d.climbs; inside = c.requires; long = omega (arith, few_elements d.sheet.now, d.long.1) }
+    record { climbs = d.climbs; inside = c.requires; long = omega (arith, few_elements d.sheet.now, d.wide) }
 
 pub returns : goal.returns
 returns c =
     let d = c.args.self.now in
     let s = d.sheet.now in
-    ap Some (c.name.ensures ∙ ap (λ (e : ElementRecord). name_bytes (names_in s) e.name) c.element_record.ensures ∙ ap (name_at s) c.climb-at.ensures)
+    ap Some (c.name.ensures ∙ ap (λ (e : ElementRecord). name_bytes (names_in s) e.name) c.record.ensures ∙ ap (name_at s) c.climb-at.ensures)
     ∙ sym (path_at s d.parents c.args.row.parts c.args.row.element c.args.part c.if-part-parts.false)

@@ -1,12 +1,9 @@
-use Rattle.std.proofs.Common.{sym}
-use Rattle.directory.proofs.Answered.{beyond, here, row_path}
+use Rattle.std.proofs.Common.{ap, ◌∙◌}
+use Rattle.std.specs.List.{slice_get}
+use Rattle.directory.proofs.Answered.{got, row_is, row_stands}
 use Rattle.directory.proofs.flattened.FlattenedDirectory.row.Goals as goal
-
-pub returns-then-leaf-self : goal.returns-then-leaf-self
-returns-then-leaf-self c = record { leaf = sym (beyond c.args.self.now c.args.leaf c.if-leaf-self.true); inside = tt }
 
 pub returns : goal.returns
 returns c =
-    let d = c.args.self.now in
-    let h = c.if-leaf-self.false in
-    record { leaf = sym (here d c.args.leaf h); inside = (d.inside c.args.leaf h, row_path d c.args.leaf) }
+    let e = c.copied.ensures ∙ got c.deref.result.now c.args.leaf c.get.result c.get.ensures.lookup ∙ ap (λ xs. slice_get xs c.args.leaf) c.deref.ensures.0 in
+    record { leaf = row_is c.args.self.now c.args.leaf c.copied.result e; inside = row_stands c.args.self.now c.args.leaf c.copied.result e }

@@ -1,10 +1,7 @@
-use Rattle.std.proofs.Common.{◌≡◌, ◌<◌, length}
+use Rattle.std.proofs.Common.{◌≡◌, ◌-◌, ◌<◌, length}
 use Rattle.sheet.specs.Seen.{elements_in}
 use Rattle.directory.specs.Rows.{upward}
 use Rattle.directory.proofs.flattened.answers.climb.Given as goal
 
-abbrev pub invariant-loop-left : goal.invariant-loop-left
-invariant-loop-left l = (l.at < length (elements_in l.sheet)) × (upward l.parents l.left l.at ≡ upward l.parents l.steps l.from)
-
-abbrev pub decreases-loop-left : goal.decreases-loop-left
-decreases-loop-left l = l.left
+abbrev pub invariant-loop-k : goal.invariant-loop-k
+invariant-loop-k l = (l.at < length (elements_in l.sheet)) × (upward l.parents (l.steps - l._k) l.at ≡ upward l.parents l.steps l.from)

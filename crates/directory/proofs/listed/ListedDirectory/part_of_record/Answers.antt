@@ -10,4 +10,4 @@ returns-then-part-leaf c = sym (no_part c.args.self.now.sheet.now c.args.leaf c.
 pub returns : goal.returns
 returns c =
     let s = c.args.self.now.sheet.now in
-    ap Some (c.name.ensures ∙ ap (name_bytes (names_in s)) c.part-name.ensures) ∙ sym (part_is_lem s c.args.leaf c.args.part c.requires c.if-part-leaf.false)
+    ap Some (c.name.ensures ∙ ap (name_bytes (names_in s)) c.record-name.ensures) ∙ sym (part_is_lem s c.args.leaf c.args.part c.requires c.if-part-leaf.false)
