@@ -31,7 +31,7 @@ impl StructFieldAccess {
     }
 
     /// Whether it is on a root, with all that it names in the sheet.
-    pub(crate) fn is_on(&self, sheet: &Sheet, root: usize) -> bool
+    pub fn is_on(&self, sheet: &Sheet, root: usize) -> bool
         ensures { result ≡ is_on sheet.now root self.now }
     {
         self.is_in(sheet) && self.root_index as usize == root

@@ -21,7 +21,8 @@ const MOST: usize = 256;
 /// Accesses that were gathered.
 pub(crate) type Paths = ArrayVec<StructFieldAccess, MOST>;
 
-// Gathers the accesses that pass a test.
+// Gathers the accesses that pass a test. The room is lent, so that it serves all children of a type; `extend` is fallible, and here is
+// room, so it is a loop.
 fn gather<F: Fn(&StructFieldAccess) -> bool>(
     accesses: &[StructFieldAccess],
     test: F,

@@ -14,30 +14,35 @@ pub(crate) enum Request {
 }
 
 impl Request {
-    fn open(heap: Global, sheet: &str) -> Result<Request, AllocError> {
-        match hex::read(heap, sheet)? {
-            Some(bytes) => Ok(Request::Open(bytes)),
-            None => Ok(Request::Bad),
-        }
-    }
-
-    fn leaves(heap: Global, kind: DirectoryKind, sheet: &str) -> Result<Request, AllocError> {
-        match hex::read(heap, sheet)? {
-            Some(bytes) => Ok(Request::Leaves(kind, bytes)),
-            None => Ok(Request::Bad),
-        }
+    // What is asked of a sheet that is written in hexadecimal.
+    fn about<F: FnOnce(Vec<u8>) -> Request>(
+        heap: Global,
+        sheet: &str,
+        request: F,
+    ) -> Result<Request, AllocError>
+        requires { F.IsAlwaysCallable request }
+    {
+        Ok(hex::read(heap, sheet)?.map_or(Request::Bad, request))
     }
 
     /// The request of a line, whose words are parted by one space each.
     pub(crate) fn read(heap: Global, line: &str) -> Result<Request, AllocError> {
         let mut words = line.split(' ');
         match (words.next(), words.next(), words.next(), words.next()) {
-            (Some("open"), Some(sheet), None, _) => Request::open(heap, sheet),
+            (Some("open"), Some(sheet), None, _) => Request::about(heap, sheet, Request::Open),
             (Some("leaves"), Some("listed"), Some(sheet), None) => {
-                Request::leaves(heap, DirectoryKind::Listed, sheet)
+                Request::about(
+                    heap,
+                    sheet,
+                    |bytes| Request::Leaves(DirectoryKind::Listed, bytes),
+                )
             }
             (Some("leaves"), Some("flat"), Some(sheet), None) => {
-                Request::leaves(heap, DirectoryKind::Flattened, sheet)
+                Request::about(
+                    heap,
+                    sheet,
+                    |bytes| Request::Leaves(DirectoryKind::Flattened, bytes),
+                )
             }
             (Some("plan" | "filter" | "cut" | "answer"), _, _, _) => Ok(Request::Later),
             _ => Ok(Request::Bad),

@@ -6,7 +6,7 @@ use Rattle.std.specs.Option.{option_map}
 use denote.Ref.{Bor}
 use Rattle.rules.specs.Names.{Name}
 use Rattle.rules.specs.Types.{Ty, File, first_named, is_nested}
-use Rattle.rules.specs.Expressions.{Expr, column, get_field, Exprs, done, arg, is_column, name_of_column, path_of}
+use Rattle.rules.specs.Expressions.{Expr, column, get_field, Exprs, arg, is_column, name_of_column, path_of}
 use Rattle.rules.specs.Findings.{Finding, is_supported, is_map_root, path_step, get_field_step, findings, findings_in}
 use Rattle.format.specs.declared.kinds.NodeKind.TheVariants.{GetField}
 use Rattle.sheet.specs.declared.sheet.Sheet.{Sheet}
@@ -32,9 +32,6 @@ module _ (file : File) (lists casts : Bool) (t : Ty) where
 
   abbrev follow : Name → Bool
   follow name = not (is_map_root file lists casts (first_named name 0 file)) && (not (is_nested t) || is_supported file lists casts t)
-
-  pub field_of_none : (x : Expr) (es : Exprs) → x ≡ get_field t es → es ≡ done → Below x
-  field_of_none x es e d = subst Below (sym (e ∙ ap (get_field t) d)) refl
 
   module _ (x : Expr) (es : Exprs) (e : x ≡ get_field t es) (f : Expr) (fs : Exprs) (are : es ≡ arg f fs) where
     abbrev inside : List Finding

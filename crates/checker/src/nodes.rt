@@ -22,6 +22,7 @@ pub fn end_of(node: NodeRef<'_>) -> usize
 pub fn column_name(node: NodeRef<'_>) -> Option<&[u8]>
     ensures { option_map (λ x. x.now) result ≡ name_of_column (expr_at node.entry.sheet.now node.entry.place) }
 {
+    // A match: of `matches!(..).then(..)` the result stayed open.
     match node.kind() {
         NodeKind::Column => Some(node.name()),
         _ => None,

@@ -26,7 +26,7 @@ use access::{CastColumnAccess, StructFieldAccess};
 use arrayvec::ArrayVec;
 use nested::TypePair;
 use sheet::inner::{NodeRef, TypeRef};
-use sheet::{NodeKind, NodeRecord, RootRecord, Sheet};
+use sheet::{NodeKind, NodeRecord, Sheet};
 
 // The methods that look at a node take its place, which the checker's sheet must have; a `NodeRef` would need the clause that its
 // sheet is the checker's, in place of that one. Room for one more access holds before a node, and not of every checker.
@@ -68,8 +68,7 @@ impl<'schema> PushdownChecker<'schema> {
         ensures sheet { result.sheet.now ≡ sheet_of self.now }
         ensures root { type_at_place result.sheet.now result.place ≡ type_at (file_of self.now) root }
     {
-        let place = self.file_schema.record::<RootRecord>(root).type_place as usize;
-        TypeRef::at(self.file_schema, place)
+        TypeRef::of_root(self.file_schema, root)
     }
 
     // Lists are supported where the predicate is.

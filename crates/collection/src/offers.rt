@@ -27,6 +27,7 @@ fn append<T: Copy>(
     Ok(count)
 }
 
+// One call for each table: each has a count and an equation of its own.
 impl Collection {
     // One expression more, unless 64 are there.
     fn push_expression(&mut self, records: &mut Records, expression: u16) -> Result<(), Fault>

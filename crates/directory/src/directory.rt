@@ -34,6 +34,7 @@ pub trait LeafDirectory {
         ensures { result ≡ part_count_at (leaves self.now) leaf };
 
     /// Whether a part of a leaf's path is `name`, or none where there is no such part.
+    /// No default reads it off `part`, which only `LeafPaths` has; so both directories here say it in the same words.
     fn part_is(&self, leaf: usize, part: usize, name: &[u8]) -> Option<bool>
         ensures { result ≡ part_is (leaves self.now) leaf part name.now };
 }

@@ -1,5 +1,5 @@
 -- The passes over the elements. Assumes nothing.
-use Rattle.std.proofs.Common.{◌≡◌, ℕ, zero, suc, ◌+◌, ◌-◌, ◌<◌, ◌≤◌, Bool, true, false, cond, ◌&&◌, ltb, leb, List, [], ◌∷◌, ◌++◌, length, get_or, drop, Some, None, Option, sym, refl, ap, ◌∙◌, subst, append_assoc, append-nil, arith, length-drop}
+use Rattle.std.proofs.Common.{◌≡◌, ℕ, zero, suc, ◌+◌, ◌-◌, ◌<◌, ◌≤◌, Bool, true, false, cond, ◌&&◌, ltb, leb, List, [], ◌∷◌, ◌++◌, length, get_or, drop, Some, None, Option, sym, refl, ap, ◌∙◌, subst, append_assoc, arith, length-drop}
 use Rattle.std.proofs.lemmas.List.{at_drop_all, get_or-drop, drop_more}
 use Rattle.std.specs.List.{slice_get}
 use Rattle.std.specs.Option.{option_map}
@@ -7,7 +7,7 @@ use Rattle.std.proofs.lemmas.Bool.{le-leb, lt-leb, le-ltb, lt-ltb, cond-true, co
 use Rattle.rules.specs.Searches.{first_failing, earlier}
 use Rattle.rules.specs.Trees.{Tree, node, Forest, none, more, size, sizes, levels, levels_in, first_trees, later_trees, first_tree, forest, whole}
 use Rattle.rules.proofs.Forests.{whole_first, one_taken, one_counted, length-levels, sizes_forest}
-use Rattle.rules.proofs.Searches.{search_on, search_ends, search_over, search_starts, first_of_both}
+use Rattle.rules.proofs.Searches.{search_on, search_ends, search_over, first_of_both}
 use Rattle.format.specs.declared.opens.Open.{Open}
 use Rattle.format.specs.declared.records.ElementRecord.{ElementRecord}
 use Rattle.format.specs.declared.layout.Layout.{Layout}
@@ -107,17 +107,6 @@ module _ (es : List ElementRecord) where
     pub gives : (t : Tree ElementRecord) → first_tree (forest kids es) ≡ Some t → coming_levels os (forest kids (drop p es)) ≡ drop p (levels 1 t)
     pub rest : (t : Tree ElementRecord) → first_tree (forest kids es) ≡ Some t → first_failing (ok t) 0 n ≡ first_failing (ok t) p (n - p)
 
-  first_is : (f : Forest ElementRecord) (t : Tree ElementRecord) → first_tree f ≡ Some t → levels_in 1 (first_trees 1 f) ++ [] ≡ levels 1 t
-  first_is none t e = let z : ◌≡◌ {A = ℕ} 0 1 = cc in absurd (omega arith)
-  first_is (more u f) t e = let s : u ≡ t = cc in append-nil _ ∙ append-nil _ ∙ ap (levels 1) s
-
-  pub levelled_starts : Levelled 0 (record { left = 1; told = 1 } ∷ [])
-  levelled_starts = record {
-    sound = (omega arith, omega arith, omega arith, tt);
-    gives = first_is (forest kids es);
-    rest = λ t e. search_starts (ok t) n;
-  }
-
   -- where nothing is open, all levels have been told
   pub told_all : (p : ℕ) → Levelled p [] → p < n → (t : Tree ElementRecord) → first_tree (forest kids es) ≡ Some t → size t ≡ n → ⊥
   told_all p s h t e whole_is = omega (arith, ap length (s.gives t e), length-drop p (levels 1 t), length-levels 1 t)
@@ -142,9 +131,6 @@ module _ (es : List ElementRecord) where
 
     pub deep_here : 32 < top.told → (t : Tree ElementRecord) → first_tree (forest kids es) ≡ Some t → Some p ≡ first_failing (ok t) 0 n
     deep_here high t e = search_ends (ok t) n p h (lt-leb _ _ (omega (arith, level_is t e))) (s.rest t e)
-
-    pub low_level : length under < top.told
-    low_level = s.sound.1
 
     still : AllOpen (fewer (top ∷ under))
     still = all_fewer (top ∷ under) s.sound

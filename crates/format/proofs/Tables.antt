@@ -1,8 +1,8 @@
 -- The records of a section, by place. Assumes nothing.
-use Rattle.std.proofs.Common.{◌≡◌, ℕ, ◌+◌, ◌*◌, ◌<◌, ◌≤◌, List, length, get_or, mul-le-mul_left, mul-one, mul-add, arith}
+use Rattle.std.proofs.Common.{◌≡◌, ℕ, ◌+◌, ◌*◌, ◌<◌, ◌≤◌, List, length, get_or, arith}
 use Rattle.std.proofs.lemmas.List.FromFn.{length-map-range_with_len, get_or-map-range_with_len}
 use Rattle.std.proofs.lemmas.List.{get_or_past}
-use Rattle.format.specs.Records.{table, Inside}
+use Rattle.format.specs.Records.{table}
 
 module _ {R : Type 0} (width : ℕ) (from : List ℕ → ℕ → R) (bs : List ℕ) (start count : ℕ) where
   pub length-table : length (table width from bs start count) ≡ count
@@ -15,12 +15,3 @@ module _ {R : Type 0} (width : ℕ) (from : List ℕ → ℕ → R) (bs : List �
 
   pub record_past : (d : R) (p : ℕ) → count ≤ p → get_or (table width from bs start count) p d ≡ d
   record_past d p h = get_or_past (table width from bs start count) p d (omega (arith, length-table))
-
-  -- a record of a section that lies inside the bytes lies there too
-  pub record_inside : (p : ℕ) → p < count → Inside width count start (length bs) → start + width * p + width ≤ length bs
-  record_inside p h inside =
-      let more = inside (omega arith) in
-      let low = mul-le-mul_left {m = p + 1} {n = count} width (omega arith) in
-      let split = mul-add width p 1 in
-      let one = mul-one width in
-      omega (arith, more, low, split, one)

@@ -97,6 +97,7 @@ fn let_go(ends: &mut ArrayVec<usize, MAX_DEPTH>, place: usize)
     ensures passed { (i : ℕ) → length ends.new.items ≤ i → i < length ends.old.items → slice_index ends.old.items i ≤ place }
     ensures last { 0 < length ends.new.items → place < slice_index ends.new.items (length ends.new.items - 1) }
 {
+    // A loop: from the end on, up to the first that stays; those before it are not looked at.
     while let Some(end) = ends.last() {
         if *end > place {
             return;

@@ -12,7 +12,7 @@ const FORM: u16 = 1;
 
 const MAX_BYTES: usize = 65536;
 
-// The bytes of a record and the most records, section by section.
+// The bytes of a record and the most records, by the number of the section, which faults tell too.
 const WIDTHS: [usize; 8] = [1, 12, 2, 6, 4, 6, 24, 2];
 
 const LIMITS: [u16; 8] = [16384, 2048, 256, 1024, 2048, 1024, 512, 64];

@@ -32,7 +32,7 @@ fn first_bad_nested<R: Checked + Preorder>(records: &Records<'_, R>, layout: Lay
     earlier(first_unfair(records, layout, 0), first_misplaced(records))
 }
 
-// Refuses a section for its first bad record.
+// Refuses a section, by the number that its fault tells, for its first bad record.
 fn refuse(section: u16, found: Option<u16>) -> Result<(), Fault>
     ensures { result_err result ≡ option_map (BadRecord section) found }
 {

@@ -1,5 +1,5 @@
-//! Inner: for our own crates. Which leaves of a nested type a cast needs. What is here asks that a place lies in the table of
-//! types.
+//! Inner: for our own crates. Which leaves of a nested type a cast needs. `TypePair::of` asks that both places lie in the
+//! table of types.
 #![tactic(auto)]
 
 mod keeping;

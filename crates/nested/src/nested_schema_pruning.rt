@@ -43,6 +43,7 @@ pub fn contains_struct(here: TypeRef<'_>) -> bool
     ensures { result ≡ contains_struct (type_at_place here.entry.sheet.now here.entry.place) }
 {
     let mut at = here;
+    // A loop: one step for each wrapper, until a kind answers.
     loop {
         match at.kind() {
             TypeKind::Struct => return true,
@@ -57,6 +58,7 @@ pub(crate) fn find_field(here: TypeRef<'_>, name: &[u8]) -> Option<usize>
     ensures found { option_map (type_at_place here.entry.sheet.now) result ≡ type_named name.now (fields_under here.entry.sheet.now here.entry.place) }
     ensures inside { Inside here.entry.sheet.now result }
 {
+    // A loop: that a chain of `find` gives the first one would be an induction of its own.
     for child in here.children() {
         if child.name() == name {
             return Some(child.place());
@@ -104,6 +106,7 @@ impl TypePair<'_> {
         ensures { result ≡ is_nested_cast (type_at_place self.entry.sheet.now self.entry.place) (type_at_place self.entry.sheet.now self.entry.goal) }
     {
         let mut pair = self;
+        // A loop: one step for each pair of lists, until the kinds answer.
         loop {
             match pair.kinds() {
                 Pair::Structs => return true,

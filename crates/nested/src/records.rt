@@ -8,7 +8,7 @@ ghost use Rattle.nested.specs.Alike.{used_detail, same_top, same_field};
 use sheet::inner::TypeRef;
 use sheet::{Sheet, TypeKind, TypeRecord};
 
-/// The head of a type that has other children than before.
+/// The head of a type that has other children than before. (`access` writes its heads where it prunes: it does not rest on `nested`.)
 pub(crate) fn headed(here: TypeRecord, children: u16, span: usize) -> TypeRecord
     requires { span < 65536 }
     ensures { result ≡ head_of here children span }

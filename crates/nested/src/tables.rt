@@ -11,7 +11,7 @@ pub struct ClipTable {
     pub types: ArrayVec<TypeRecord, 2048>,
 }
 
-/// Says that a table holds a clip.
+/// Says that a table holds a clip. The table is lent, since one serves all roots of a plan.
 #[derive(Clone, Copy)]
 pub struct Clip;
 

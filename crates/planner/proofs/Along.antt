@@ -1,7 +1,6 @@
 -- Which leaves lie along the accesses on a root. Assumes nothing.
 use Rattle.std.proofs.Common.{◌≡◌, ℕ, suc, ◌+◌, ◌-◌, ◌<◌, ◌≤◌, Bool, true, false, cond, ◌||◌, eqb, List, [], ◌∷◌, ◌++◌, map, length, get_or, take, set, Some, None, sym, refl, ap, ◌∙◌, append_assoc, append-nil, arith}
 use Rattle.std.proofs.lemmas.List.{take_more_set, take_more, map-append}
-use Rattle.std.proofs.lemmas.Bool.{eq-eqb}
 use Rattle.std.specs.List.{range_with_len, list_any}
 use Rattle.rules.specs.Keeping.{is_prefix, any_prefix}
 use Rattle.rules.specs.Leaves.{Leaf}
@@ -20,20 +19,6 @@ none_along (x ∷ rest) = refl
 along_more : (p : List Name) (ps : List (List Name)) (parts : List Name) → is_along (p ∷ ps) parts ≡ (is_along (p ∷ []) parts || is_along ps parts)
 along_more p ps [] = refl
 along_more p ps (x ∷ rest) = ap (λ b. b || any_prefix ps rest) (sym (or-false (is_prefix p rest)))
-
-module _ (s : Sheet) (j : ℕ) (a : StructFieldAccess) (parts : List Name) where
-  abbrev one : List (List Name)
-  one = on j (accesses_in s (a ∷ []))
-
-  is_one : (b c : Bool) → is_access s a ≡ b → eqb a.root_index j ≡ c → one ≡ cond b (cond c (path_at s a ∷ []) []) []
-  is_one b c e f = (λ k. on j (added (cond (e k) (Some (a.root_index, path_at s a)) None) [])) ∙ by b
-    where
-      by : (b : Bool) → on j (added (cond b (Some (a.root_index, path_at s a)) None) []) ≡ cond b (cond c (path_at s a ∷ []) []) []
-      by true = ap (λ z. cond z (path_at s a ∷ []) []) f
-      by false = refl
-
-  pub leads : is_access s a ≡ true → a.root_index ≡ j → is_along (path_at s a ∷ []) parts ≡ is_along one parts
-  leads h e = sym (ap (λ w. is_along w parts) (is_one true true h (eq-eqb _ _ e)))
 
 module _ (s : Sheet) (j : ℕ) (parts : List Name) where
   abbrev by : List StructFieldAccess → Bool

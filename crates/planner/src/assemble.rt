@@ -10,14 +10,15 @@ ghost use Rattle.planner.specs.RootPlans.{all_records};
 
 use crate::leaves::{LeafRange, choose_all, choose_along, choose_kept};
 use crate::projection_read_plan::Plan;
-use crate::readings::{RootReading, RootUses, Uses, read_root, root_type};
+use crate::readings::{RootReading, RootUses, Uses, read_root};
 use access::prune_struct_type;
 use directory::LeafDirectory;
 use nested::ClipTable;
 use sheet::inner::TypeRef;
 use sheet::{RootRecord, Sheet, TypeRecord};
 
-// Chooses the leaves that are read of a root, of those that it has. Tells how many are chosen.
+// Chooses the leaves that are read of a root, of those that it has. Tells how many are chosen. Room is asked for, because the mask is
+// lent.
 fn choose_root<D: LeafDirectory>(
     sheet: &Sheet,
     directory: &D,
@@ -104,7 +105,7 @@ pub fn build_read_plan<D: LeafDirectory>(
     };
     let mut first = 0;
     for root in 0..sheet.count::<RootRecord>() {
-        let here = root_type(sheet, root);
+        let here = TypeRef::of_root(sheet, root);
         let used = RootUses { root, uses: *uses };
         let own = LeafRange::of_root(directory, root, first);
         let reading = read_root(here, used, own.len(), table);

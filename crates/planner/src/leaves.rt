@@ -1,4 +1,5 @@
-//! The leaves of one root, and which of them are read.
+//! The leaves of one root, and which of them are read. Sheet and directory go side by side, since a planner's caller has them apart;
+//! where numbers are written, room is asked for, because the mask is lent.
 ghost use Rattle.std.specs.Prelude.{◌≡◌, ℕ, ◌+◌, ◌-◌, ◌^◌, ◌<◌, ◌≤◌, [], ◌∷◌, map, length, take, slice_index};
 ghost use Rattle.std.specs.List.{range_with_len, list_all};
 ghost use Rattle.rules.specs.ReadPlan.{is_along, numbers_along, on};
@@ -113,9 +114,7 @@ fn leads_to<D: LeafDirectory>(
 ) -> bool
     ensures { result ≡ is_along (on root (accesses_in sheet.now (access ∷ []))) (parts_of (D.LeafDirectory.leaves directory.now) leaf) }
 {
-    access.is_in(sheet)
-        && access.root_index as usize == root
-        && has_prefix(sheet, directory, leaf, access)
+    access.is_on(sheet, root) && has_prefix(sheet, directory, leaf, access)
 }
 
 // Whether one of the accesses on a root has a path that prefixes the leaf's parts after the first.
@@ -155,6 +154,7 @@ pub(crate) fn choose_kept(offsets: &[u16], first: usize, mask: &mut [usize]) -> 
     ensures chosen { take result mask.new ≡ map (λ o. first + o) offsets.now }
     ensures count { result ≡ length offsets.now }
 {
+    // A loop: what stands in the lent mask behind the offsets stays.
     for (k, offset) in offsets.iter().enumerate() {
         mask[k] = first + *offset as usize;
     }

@@ -10,8 +10,8 @@ ghost use Rattle.sheet.specs.Seen.{roots_in, types_in};
 ghost use Rattle.sheet.specs.SheetTrees.{type_tree};
 ghost use Rattle.planner.specs.RootPlans.{PlanAnswer, SchemaOfTheFile, root_level, listed_fields, field_records, all_records, span_of};
 
-use crate::readings::root_type;
 use directory::LeafDirectory;
+use sheet::inner::TypeRef;
 use sheet::{Fault, RootRecord, Sheet, TypeRecord};
 
 /// A plan: how many leaves are read, and how many fields and type records the projected schema has. They stand at the
@@ -106,7 +106,7 @@ fn copy_fields(sheet: &Sheet, roots: &[usize], buffer: &mut [TypeRecord]) -> Sch
     let mut types = 0;
     for root in 0..sheet.count::<RootRecord>() {
         if roots.contains(&root) {
-            types += root_type(sheet, root).copy_into(&mut buffer[types..]);
+            types += TypeRef::of_root(sheet, root).copy_into(&mut buffer[types..]);
             fields += 1;
         }
     }

@@ -1,9 +1,7 @@
 //! How a root is read.
-ghost use Rattle.std.specs.Prelude.{◌≡◌, ◌<◌, not, length, slice_index_or};
+ghost use Rattle.std.specs.Prelude.{◌≡◌, not};
 ghost use Rattle.rules.specs.ReadPlan.{every};
 ghost use Rattle.rules.specs.Types.{same_type};
-ghost use Rattle.format.specs.Records.{no_root};
-ghost use Rattle.sheet.specs.Seen.{roots_in};
 ghost use Rattle.sheet.specs.SheetExpressions.{type_at_place};
 ghost use Rattle.nested.specs.Clips.{shown};
 ghost use Rattle.planner.specs.Readings.{Reads, clip_met, may_narrow, paths_on, reading_of};
@@ -11,8 +9,8 @@ ghost use Rattle.planner.specs.Targets.{is_cast_on, is_unlike, targets_on, First
 
 use access::{CastColumnAccess, StructFieldAccess, has_access};
 use nested::{Clip, ClipTable, TypePair, count_leaves};
+use sheet::Sheet;
 use sheet::inner::TypeRef;
-use sheet::{RootRecord, Sheet};
 
 /// What a plan is made from: the roots that are read entire, and the accesses and casts on others.
 #[derive(Clone, Copy)]
@@ -38,15 +36,7 @@ pub enum RootReading {
     Narrowed,
 }
 
-/// The type of a root's field.
-pub(crate) fn root_type(sheet: &Sheet, root: usize) -> TypeRef<'_>
-    requires { root < length (roots_in sheet.now) }
-    ensures sheet { result.sheet.now ≡ sheet.now }
-    ensures place { result.place ≡ (slice_index_or (roots_in sheet.now) root no_root).type_place }
-{
-    TypeRef::at(sheet, sheet.record::<RootRecord>(root).type_place as usize)
-}
-
+// Only the planner asks for a cast's root.
 fn is_cast_on(sheet: &Sheet, cast: CastColumnAccess, root: usize) -> bool
     ensures { result ≡ is_cast_on sheet.now cast root }
 {

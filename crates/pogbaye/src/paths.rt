@@ -21,7 +21,7 @@ impl Titled for FlattenedDirectory<'_> {
     }
 }
 
-/// The path of a leaf: its parts, joined by dots.
+/// The path of a leaf: its parts, joined by dots. The leaf is a number, as a directory of any maker is asked by one.
 #[derive_where(Clone, Copy)]
 pub(crate) struct LeafPath<'a, D> {
     pub directory: &'a D,

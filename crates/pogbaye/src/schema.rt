@@ -132,8 +132,8 @@ impl<'a> TreePrinter<'a> {
     }
 
     // The margin of the next type. A leaf takes the next number.
-    fn margin(&mut self, kind: u8) -> Margin {
-        let Ok(TypeKind::Leaf) = TypeKind::try_from(kind) else {
+    fn margin(&mut self, record: TypeRecord) -> Margin {
+        let Ok(TypeKind::Leaf) = TypeKind::try_from(record.kind) else {
             return Margin::Blank;
         };
         let leaf = self.leaves;
@@ -150,7 +150,7 @@ impl<'a> TreePrinter<'a> {
         let depth = self.depth(place);
         self.ends.truncate(depth);
         self.ends.push(place.saturating_add(record.span as usize))?;
-        let margin = self.margin(record.kind);
+        let margin = self.margin(record);
         let indent = depth.saturating_mul(2);
         let line = TypeLine {
             sheet: self.sheet,

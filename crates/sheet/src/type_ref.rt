@@ -2,12 +2,12 @@
 ghost use Rattle.std.specs.Prelude.{◌≡◌, ◌<◌, ◌≤◌, length, take, Some, slice_index_or};
 ghost use Rattle.rules.specs.Trees.{preorder, size};
 ghost use Rattle.format.specs.Kinds.{type_kind_of};
-ghost use Rattle.format.specs.Records.{name_bytes, no_type};
-ghost use Rattle.sheet.specs.Seen.{names_in, types_in};
+ghost use Rattle.format.specs.Records.{name_bytes, no_root, no_type};
+ghost use Rattle.sheet.specs.Seen.{names_in, roots_in, types_in};
 ghost use Rattle.sheet.specs.SheetTrees.{type_tree};
 
 use crate::sheet::Sheet;
-use format::{TypeKind, TypeRecord};
+use format::{RootRecord, TypeKind, TypeRecord};
 
 /// A type of a sheet, by its place.
 #[derive(Clone, Copy)]
@@ -25,6 +25,15 @@ impl<'a> TypeRef<'a> {
         ensures place { result.place ≡ place }
     {
         TypeRef { sheet, place }
+    }
+
+    /// The type of a root's field.
+    pub fn of_root(sheet: &'a Sheet, root: usize) -> TypeRef<'a>
+        requires { root < length (roots_in sheet.now) }
+        ensures sheet { result.sheet.now ≡ sheet.now }
+        ensures place { result.place ≡ (slice_index_or (roots_in sheet.now) root no_root).type_place }
+    {
+        TypeRef::at(sheet, sheet.record::<RootRecord>(root).type_place as usize)
     }
 
     pub fn sheet(self) -> &'a Sheet

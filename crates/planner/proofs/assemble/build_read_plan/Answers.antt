@@ -17,7 +17,7 @@ loop-root-init g c =
 
 pub choose_root-requires-clause-clip : goal.choose_root-requires-clause-clip
 choose_root-requires-clause-clip g c =
-    told_fits c.args.uses.now c.loop-root.root c.read_root-reading.result c.read_root-reading.new.table c.root_type-here.result.sheet.now c.root_type-here.result.place c.len.result c.read_root-reading.ensures
+    told_fits c.args.uses.now c.loop-root.root c.read_root-reading.result c.read_root-reading.new.table c.of_root-here.result.sheet.now c.of_root-here.result.place c.len.result c.read_root-reading.ensures
     c.of_root-own.result.first c.of_root-own.result.end c.len.ensures
 
 pub keep_root-requires-clause-room : goal.keep_root-requires-clause-room
@@ -25,20 +25,20 @@ keep_root-requires-clause-room g c =
     let s = c.args.sheet.now in
     let ls = g.D.LeafDirectory.leaves c.args.directory.now in
     let l = c.loop-root in
-    let here = c.root_type-here in
+    let here = c.of_root-here in
     let e : size (type_tree here.result.sheet.now here.result.place) ≡ size (type_tree s (place_of s l.root)) = λ k. size (type_tree (here.ensures.sheet k) (here.ensures.place k)) in
     omega (arith, length-behind l.plan.types l.fields, room_at_root s ls c.args.uses.now l.root l.first l.plan.leaves l.plan.fields l.plan.types l.leaves l.fields (omega arith) l.invariant)
 
 pub keep_root-requires-clause-clip : goal.keep_root-requires-clause-clip
 keep_root-requires-clause-clip g c =
-    told_short c.args.uses.now c.loop-root.root c.read_root-reading.result c.read_root-reading.new.table c.root_type-here.result.sheet.now c.root_type-here.result.place c.len.result c.read_root-reading.ensures
+    told_short c.args.uses.now c.loop-root.root c.read_root-reading.result c.read_root-reading.new.table c.of_root-here.result.sheet.now c.of_root-here.result.place c.len.result c.read_root-reading.ensures
 
 pub overflow_add-plan-in-loop-root : goal.overflow_add-plan-in-loop-root
 overflow_add-plan-in-loop-root g c =
     let s = c.args.sheet.now in
     let ls = g.D.LeafDirectory.leaves c.args.directory.now in
     let l = c.loop-root in
-    let here = c.root_type-here in
+    let here = c.of_root-here in
     let e : size (type_tree here.result.sheet.now here.result.place) ≡ size (type_tree s (place_of s l.root)) = λ k. size (type_tree (here.ensures.sheet k) (here.ensures.place k)) in
     omega (arith, c.keep_root.ensures.count, room_at_root s ls c.args.uses.now l.root l.first l.plan.leaves l.plan.fields l.plan.types l.leaves l.fields (omega arith) l.invariant)
 
@@ -48,7 +48,7 @@ loop-root-preserved g c =
     let ls = g.D.LeafDirectory.leaves c.args.directory.now in
     let u = c.args.uses.now in
     let l = c.loop-root in
-    let here = c.root_type-here in
+    let here = c.of_root-here in
     let own = c.of_root-own in
     let told = c.read_root-reading in
     let e : size (type_tree here.result.sheet.now here.result.place) ≡ size (type_tree s (place_of s l.root)) = λ k. size (type_tree (here.ensures.sheet k) (here.ensures.place k)) in

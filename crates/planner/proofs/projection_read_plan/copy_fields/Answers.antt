@@ -18,14 +18,14 @@ pub copy_into-types-requires : goal.copy_into-types-requires
 copy_into-types-requires c =
     let s = c.args.sheet.now in
     let l = c.loop-root in
-    let e : size (type_tree c.root_type.result.sheet.now c.root_type.result.place) ≡ size (type_tree s (place_of s l.root-counter)) = λ k. size (type_tree (c.root_type.ensures.sheet k) (c.root_type.ensures.place k)) in
+    let e : size (type_tree c.of_root.result.sheet.now c.of_root.result.place) ≡ size (type_tree s (place_of s l.root-counter)) = λ k. size (type_tree (c.of_root.ensures.sheet k) (c.of_root.ensures.place k)) in
     omega (arith, length-behind l.types l.buffer, room_here s c.args.roots.now l.root-counter l.fields l.types l.buffer (omega arith) l.invariant)
 
 pub overflow_add-types : goal.overflow_add-types
 overflow_add-types c =
     let s = c.args.sheet.now in
     let l = c.loop-root in
-    let e : size (type_tree c.root_type.result.sheet.now c.root_type.result.place) ≡ size (type_tree s (place_of s l.root-counter)) = λ k. size (type_tree (c.root_type.ensures.sheet k) (c.root_type.ensures.place k)) in
+    let e : size (type_tree c.of_root.result.sheet.now c.of_root.result.place) ≡ size (type_tree s (place_of s l.root-counter)) = λ k. size (type_tree (c.of_root.ensures.sheet k) (c.of_root.ensures.place k)) in
     omega (arith, c.copy_into-types.ensures.count, room_here s c.args.roots.now l.root-counter l.fields l.types l.buffer (omega arith) l.invariant)
 
 pub loop-root-preserved : goal.loop-root-preserved
@@ -36,7 +36,7 @@ loop-root-preserved c =
     let h : l.root-counter < length (roots_in s) = omega arith in
     elim c.if-contains.branch [
       | then-contains w ↦
-          let e : type_tree w.root_type.result.sheet.now w.root_type.result.place ≡ type_tree s (place_of s l.root-counter) = λ k. type_tree (w.root_type.ensures.sheet k) (w.root_type.ensures.place k) in
+          let e : type_tree w.of_root.result.sheet.now w.of_root.result.place ≡ type_tree s (place_of s l.root-counter) = λ k. type_tree (w.of_root.ensures.sheet k) (w.of_root.ensures.place k) in
           let on = one_fielded s roots l.root-counter l.fields l.types l.buffer h l.invariant _ (l.types + w.copy_into-types.result) (w.if-contains.ensures.value ∙ contained roots l.root-counter)
           (written_on l.types w.copy_into-types.result l.buffer w.copy_into-types.new.fields _ w.copy_into-types.auto.fields (omega (arith, w.copy_into-types.ensures.count, ap size e, room_here s roots l.root-counter l.fields l.types l.buffer h l.invariant)) (w.copy_into-types.ensures.copied ∙ ap preorder e)) (ap (λ n. l.types + n) (w.copy_into-types.ensures.count ∙ ap size e)) (length-put l.types l.buffer w.copy_into-types.new.fields w.copy_into-types.auto.fields) in
           subst (λ (x : ℕ × (ℕ × List TypeRecord)). Fielded s roots (l.root-counter + 1) x.0 x.1.0 x.1.1) (λ k. (sym w.fields-is k, (sym w.types-is k, sym w.buffer-is k))) on
