@@ -6,8 +6,8 @@
 
 In this order:
 
-1. tools/vectors/open.* and tools/vectors/leaves.*: requests and answers that came
-   with the task, made by a model of the rules that is independent of this
+1. tools/vectors/open.* and tools/vectors/leaves.*: requests and answers that were
+   given with the rules, made by a model of the rules that is independent of this
    repository. The model in sheets.py must give the same answers.
 2. Cases designed by hand. Each has the answer written next to it, from the rules;
    the model must give the same.
@@ -36,7 +36,7 @@ LINES = []  # (title, request, answer)
 
 
 def given(kind):
-    """Takes over the lines that came with the task."""
+    """Takes over the lines that were given with the rules."""
     def read(end):
         with open(os.path.join(HERE, "vectors", f"{kind}.{end}")) as file:
             return file.read().splitlines()

@@ -31,7 +31,7 @@ fn prune(here: TypeRef<'_>, level: Level<'_>, fields: &mut [TypeRecord]) -> usiz
     if here.kind() != TypeKind::Struct || level.ends_here() {
         return here.copy_into(fields);
     }
-    // The head is written last, once its children and its span are known.
+    // The head is written last, once its children and its span are known. (`nested` writes its own: the two do not rest on each other.)
     let head = here.record();
     let mut written = 1;
     let mut children = 0;
@@ -53,7 +53,8 @@ fn prune(here: TypeRef<'_>, level: Level<'_>, fields: &mut [TypeRecord]) -> usiz
 }
 
 /// Writes the type at a place, pruned by the accesses on a root, to the front of a buffer: a type stays where a path ends,
-/// or if it is no Struct; a Struct keeps the fields that continue a path. Tells how many records that are.
+/// or if it is no Struct; a Struct keeps the fields that continue a path. Tells how many records that are. At most 256 accesses are
+/// asked for, because they come in as a caller's slice.
 pub fn prune_struct_type(
     here: TypeRef<'_>,
     root: usize,

@@ -1,4 +1,5 @@
-//! Makes good sheets of a given size.
+//! Makes good sheets of a given size. Numbers of the format stand here again: the bytes are written as docs/FORMAT.md has them, not as the
+//! code that reads them does.
 use crate::counts::Counts;
 use crate::records::{NodeShape, SheetBytes, TypeShape};
 use std::alloc::{AllocError, Global};

@@ -4,7 +4,7 @@ ghost use Rattle.std.specs.Prelude.{◌≡◌, ◌≤◌, length};
 use access::{CastColumnAccess, StructFieldAccess};
 
 /// The records that collections write down: the numbers of the expressions, the casts and the accesses. Those behind a
-/// collection's counts are free scratch.
+/// collection's counts are free scratch. Arrays, not vectors: they are lent at each call, and each collection has counts of its own.
 #[derive(Drop)]
 pub struct Records {
     pub(crate) expressions: [u16; 64],

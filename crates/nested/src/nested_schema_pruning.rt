@@ -76,7 +76,8 @@ impl TypePair<'_> {
     ghost use Rattle.nested.specs.Clips.{clip_at, clip_in, shown};
     ghost use Rattle.nested.specs.ClipSteps.{Added};
 
-    /// Whether the two types are the same. Where one is shorter, a record before its end differs.
+    /// Whether the two types are the same. Where one is shorter, a record before its end differs. No derive says that: two places of one
+    /// table are compared.
     pub fn is_same_type(self) -> bool
         ensures { result ≡ same_type (type_at_place self.entry.sheet.now self.entry.place) (type_at_place self.entry.sheet.now self.entry.goal) }
     {

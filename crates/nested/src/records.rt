@@ -54,7 +54,8 @@ pub(crate) fn is_same_top(one: TypeRecord, other: TypeRecord) -> bool
         && used_detail(one) == used_detail(other)
 }
 
-/// Whether two fields or items are the same on top: as types, and in nullability and name.
+/// Whether two fields or items are the same on top: as types, and in nullability and name, which is bytes elsewhere in the sheet, so no
+/// derive says that.
 pub(crate) fn is_same_field(sheet: &Sheet, one: TypeRecord, other: TypeRecord) -> bool
     ensures { result ≡ same_field (names_in sheet.now) one other }
 {

@@ -18,7 +18,7 @@ use sheet::inner::TypeRef;
 use sheet::{RootRecord, Sheet, TypeRecord};
 
 // Chooses the leaves that are read of a root, of those that it has. Tells how many are chosen. Room is asked for, because the mask is
-// lent.
+// lent; here and below at most 256 accesses are, because they come in as a caller's slice.
 fn choose_root<D: LeafDirectory>(
     sheet: &Sheet,
     directory: &D,

@@ -18,6 +18,7 @@ fn section_name(section: u16) -> &'static str {
     }
 }
 
+// A function, since `Fault` is not this crate's.
 fn meaning(fault: Fault) -> &'static str {
     match fault {
         Fault::BadExtent { section: 0 } => "the length or the form number is wrong",
