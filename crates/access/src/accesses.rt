@@ -34,7 +34,7 @@ impl StructFieldAccess {
     pub fn is_on(&self, sheet: &Sheet, root: usize) -> bool
         ensures { result ≡ is_on sheet.now root self.now }
     {
-        self.is_in(sheet) && self.root_index as usize == root
+        self.root_index as usize == root && self.is_in(sheet)
     }
 
     /// The name that the path has at a depth; empty where the sheet has no such node.

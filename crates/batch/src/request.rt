@@ -25,24 +25,22 @@ impl Request {
         Ok(hex::read(heap, sheet)?.map_or(Request::Bad, request))
     }
 
+    // What is asked of a directory that is named by a word.
+    fn leaves(directory: &str, sheet: Vec<u8>) -> Request {
+        match directory {
+            "listed" => Request::Leaves(DirectoryKind::Listed, sheet),
+            "flat" => Request::Leaves(DirectoryKind::Flattened, sheet),
+            _ => Request::Bad,
+        }
+    }
+
     /// The request of a line, whose words are parted by one space each.
     pub(crate) fn read(heap: Global, line: &str) -> Result<Request, AllocError> {
         let mut words = line.split(' ');
         match (words.next(), words.next(), words.next(), words.next()) {
             (Some("open"), Some(sheet), None, _) => Request::about(heap, sheet, Request::Open),
-            (Some("leaves"), Some("listed"), Some(sheet), None) => {
-                Request::about(
-                    heap,
-                    sheet,
-                    |bytes| Request::Leaves(DirectoryKind::Listed, bytes),
-                )
-            }
-            (Some("leaves"), Some("flat"), Some(sheet), None) => {
-                Request::about(
-                    heap,
-                    sheet,
-                    |bytes| Request::Leaves(DirectoryKind::Flattened, bytes),
-                )
+            (Some("leaves"), Some(directory), Some(sheet), None) => {
+                Request::about(heap, sheet, |bytes| Request::leaves(directory, bytes))
             }
             (Some("plan" | "filter" | "cut" | "answer"), _, _, _) => Ok(Request::Later),
             _ => Ok(Request::Bad),

@@ -75,6 +75,13 @@ impl<'a, R: Record> Records<'a, R> {
     }
 }
 
+/// How many records a section has, wherever it lies.
+pub fn count_in<R: Record>(bytes: &[u8], section: Section) -> usize
+    ensures { result ≡ length (table R.Record.width R.Record.from bytes.now section.start section.count) }
+{
+    section.count as usize
+}
+
 // So many bytes from a start on, or as many of them as there are.
 pub fn cut(bytes: &[u8], start: usize, count: usize) -> &[u8]
     ensures { result.now ≡ take count (drop start bytes.now) }

@@ -1,6 +1,5 @@
 //! What the kinds of the layout mean.
-ghost use Rattle.std.specs.Prelude.{◌≡◌};
-ghost use Rattle.std.specs.Result.{result_ok};
+ghost use Rattle.std.specs.Prelude.{◌≡◌, ok_or};
 ghost use Rattle.format.specs.Kinds.{type_kind_of, node_kind_of, literal_kind_of};
 
 /// A number of the layout that stands for no kind.
@@ -23,7 +22,7 @@ pub enum TypeKind {
 impl TryFrom<u8> for TypeKind {
     type Error = UnknownKind;
 
-    ghost try_from_gives = { λ code kind. result_ok kind ≡ type_kind_of code };
+    ghost try_from_gives = { λ code kind. kind ≡ ok_or (type_kind_of code) (record { 0 = code }) };
 
     fn try_from(code: u8) -> Result<TypeKind, UnknownKind> {
         match code {
@@ -58,7 +57,7 @@ pub enum NodeKind {
 impl TryFrom<u8> for NodeKind {
     type Error = UnknownKind;
 
-    ghost try_from_gives = { λ code kind. result_ok kind ≡ node_kind_of code };
+    ghost try_from_gives = { λ code kind. kind ≡ ok_or (node_kind_of code) (record { 0 = code }) };
 
     fn try_from(code: u8) -> Result<NodeKind, UnknownKind> {
         match code {
@@ -88,7 +87,7 @@ pub enum LiteralKind {
 impl TryFrom<u8> for LiteralKind {
     type Error = UnknownKind;
 
-    ghost try_from_gives = { λ code kind. result_ok kind ≡ literal_kind_of code };
+    ghost try_from_gives = { λ code kind. kind ≡ ok_or (literal_kind_of code) (record { 0 = code }) };
 
     fn try_from(code: u8) -> Result<LiteralKind, UnknownKind> {
         match code {

@@ -43,6 +43,13 @@ impl Plan {
     }
 }
 
+// Whether a root is listed, which is asked for every leaf and every root. `contains` of the library and `any` take longer (docs/CHECK-TIMES.md).
+fn is_listed(roots: &[usize], root: usize) -> bool
+    ensures { result ≡ is_listed roots.now root }
+{
+    roots.iter().position(|listed| *listed == root).is_some()
+}
+
 // The position of the first listed root that the file lacks.
 fn first_unknown(sheet: &Sheet, roots: &[usize]) -> Option<usize>
     ensures { result ≡ first_failing (λ k. nat_lt (slice_index roots.now k) (length (roots_in sheet.now))) 0 (length roots.now) }
@@ -78,7 +85,7 @@ fn choose_leaves<D: LeafDirectory>(directory: &D, roots: &[usize], mask: &mut [u
     // A loop: the numbers that pass go to the front of a lent buffer.
     for leaf in 0..directory.count() {
         if let Some(root) = directory.root(leaf) {
-            if roots.contains(&root) {
+            if is_listed(roots, root) {
                 mask[count] = leaf;
                 count += 1;
             }
@@ -105,7 +112,7 @@ fn copy_fields(sheet: &Sheet, roots: &[usize], buffer: &mut [TypeRecord]) -> Sch
     let mut fields = 0;
     let mut types = 0;
     for root in 0..sheet.count::<RootRecord>() {
-        if roots.contains(&root) {
+        if is_listed(roots, root) {
             types += TypeRef::of_root(sheet, root).copy_into(&mut buffer[types..]);
             fields += 1;
         }

@@ -6,7 +6,7 @@ ghost use Rattle.sheet.specs.Seen.{names_in, records_in};
 use crate::sections::SectionRecord;
 use crate::sheet::Sheet;
 use format::NameRef;
-use format::inner::{Records, cut};
+use format::inner::{Records, count_in, cut};
 
 impl Sheet {
     /// The bytes that names lie in.
@@ -35,7 +35,7 @@ impl Sheet {
     pub fn count<R: SectionRecord>(&self) -> usize
         ensures { result ≡ length (records_in R.Record.width R.Record.from R.SectionRecord.section_of self.now) }
     {
-        self.records::<R>().count() as usize
+        count_in::<R>(&self.bytes, R::section(self.layout))
     }
 
     /// The record of a kind at a place, and the blank record beyond its section.
